@@ -1,0 +1,11 @@
+pub mod Sums
+pub mod Kinds
+pub mod Parity
+pub mod Pairs
+pub mod Cubes
+pub mod Simplices
+pub mod Signs
+pub mod Facets
+pub mod CubeWords
+pub mod SimplexWords
+pub mod Worked

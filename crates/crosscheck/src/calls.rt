@@ -1,0 +1,52 @@
+// Calls on a model whose memory is five slices.
+use cell::kind::Kind;
+use columns::column::Column;
+use columns::term::Term;
+use field::field::Field;
+use kernel::fault::ModelFault;
+use kernel::memory::Memory;
+use kernel::model::Model;
+use kernel::model::Standing;
+
+// Enters the cells in turn, up to the first that is refused.
+pub fn enter_all<F: Field, C: Kind>(
+    model: &mut Standing,
+    cells: &mut [C],
+    index: &mut [u16],
+    columns: &mut [Column],
+    entries: &mut [Term<F>],
+    work: &mut [Term<F>],
+    part: &[C],
+) -> Result<(), ModelFault> {
+    for cell in part {
+        let m = Memory {
+            cells: &mut *cells,
+            index: &mut *index,
+            columns: &mut *columns,
+            entries: &mut *entries,
+            work: &mut *work,
+        };
+        model.enter(m, *cell)?;
+    }
+    Ok(())
+}
+
+// The Betti number of k; none where the question is refused.
+pub fn betti<F: Field, C: Kind>(
+    model: &Model,
+    cells: &mut [C],
+    index: &mut [u16],
+    columns: &mut [Column],
+    entries: &mut [Term<F>],
+    work: &mut [Term<F>],
+    k: u8,
+) -> Option<usize> {
+    let m = Memory {
+        cells,
+        index,
+        columns,
+        entries,
+        work,
+    };
+    model.betti(&m, k).ok()
+}

@@ -1,0 +1,7 @@
+pub mod Fields
+pub mod Faults
+pub mod Finite
+pub mod Residues
+pub mod InverseTable
+pub mod Four
+pub mod Worked
