@@ -1,0 +1,4 @@
+pub mod Names
+pub mod Cells
+pub mod States
+pub mod Answers
