@@ -8,4 +8,3 @@ pub mod Signs
 pub mod Facets
 pub mod CubeWords
 pub mod SimplexWords
-pub mod Worked

@@ -1,15 +1,15 @@
 // Calls on a model whose memory is five slices.
 use cell::kind::Kind;
 use columns::column::Column;
-use columns::term::Term;
 use field::field::Field;
+use homology::term::Term;
 use kernel::fault::ModelFault;
 use kernel::memory::Memory;
 use kernel::model::Model;
 use kernel::model::Standing;
 
 // Enters the cells in turn, up to the first that is refused.
-pub fn enter_all<F: Field, C: Kind>(
+pub(crate) fn enter_all<F: Field, C: Kind>(
     model: &mut Standing,
     cells: &mut [C],
     index: &mut [u16],
@@ -32,7 +32,7 @@ pub fn enter_all<F: Field, C: Kind>(
 }
 
 // The Betti number of k; none where the question is refused.
-pub fn betti<F: Field, C: Kind>(
+pub(crate) fn betti<F: Field, C: Kind>(
     model: &Model,
     cells: &mut [C],
     index: &mut [u16],

@@ -9,10 +9,10 @@ use crate::parts::point;
 use cell::simplex::Simplex;
 use cell::simplex::SimplexKind;
 use columns::column::Column;
-use columns::term::Term;
 use field::elements::Gf251;
 use field::field::Field;
 use field::gf251::Gf251Field;
+use homology::term::Term;
 use kernel::memory::Entry;
 use kernel::memory::Memory;
 use kernel::model::Standing;
@@ -122,7 +122,7 @@ fn call_all(
     }
 }
 
-pub fn damaged_memory(rt: &LibcRuntime) -> Result<(), AnyError> {
+pub(crate) fn damaged_memory(rt: &LibcRuntime) -> Result<(), AnyError> {
     let heap = rt.alloc();
     let mut cells = filled(heap, point(0), PLACES)?;
     let mut index = filled(heap, 0u16, PLACES)?;

@@ -10,8 +10,8 @@ use crate::random::random_simplex;
 use cell::simplex::Simplex;
 use cell::simplex::SimplexKind;
 use columns::column::Column;
-use columns::term::Term;
 use field::field::Field;
+use homology::term::Term;
 use kernel::memory::Memory;
 use kernel::model::Standing;
 use std::alloc::AllocError;
@@ -205,7 +205,7 @@ fn walk<F: Field>(
 }
 
 // One history over a field: prints how many of its comparisons agree.
-pub fn history<F: Field>(rt: &LibcRuntime, first: u32) -> Result<(), AnyError> {
+pub(crate) fn history<F: Field>(rt: &LibcRuntime, first: u32) -> Result<(), AnyError> {
     let heap = rt.alloc();
     let mut cells = filled(heap, point(0), dense::SIDE)?;
     let mut index = filled(heap, 0u16, dense::SIDE)?;

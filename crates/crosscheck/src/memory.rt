@@ -1,13 +1,13 @@
 // Memory that is made for a model, scribbled on and compared.
 use cell::kind::Kind;
 use columns::column::Column;
-use columns::term::Term;
 use field::field::Field;
+use homology::term::Term;
 use std::alloc::AllocError;
 use std::alloc::Global;
 use std::cmp::Ordering;
 
-pub const BLANK_COLUMN: Column = Column {
+pub(crate) const BLANK_COLUMN: Column = Column {
     start: 0,
     reduced: 0,
     basis: 0,
@@ -15,21 +15,21 @@ pub const BLANK_COLUMN: Column = Column {
 };
 
 // A column that points nowhere.
-pub const BROKEN_COLUMN: Column = Column {
+pub(crate) const BROKEN_COLUMN: Column = Column {
     start: 4000000000,
     reduced: 65535,
     basis: 65535,
     killer: Some(3),
 };
 
-pub fn blank_term<F: Field>() -> Term<F> {
+pub(crate) fn blank_term<F: Field>() -> Term<F> {
     Term {
         number: 0,
         coefficient: F::zero(),
     }
 }
 
-pub fn same_cells<C: Kind>(a: &[C], b: &[C]) -> bool {
+pub(crate) fn same_cells<C: Kind>(a: &[C], b: &[C]) -> bool {
     for (x, y) in a.iter().zip(b.iter()) {
         if x.compare(y) != Ordering::Equal {
             return false;
@@ -38,7 +38,7 @@ pub fn same_cells<C: Kind>(a: &[C], b: &[C]) -> bool {
     a.len() == b.len()
 }
 
-pub fn same_columns(a: &[Column], b: &[Column]) -> bool {
+pub(crate) fn same_columns(a: &[Column], b: &[Column]) -> bool {
     for (x, y) in a.iter().zip(b.iter()) {
         if x.start != y.start
             || x.reduced != y.reduced
@@ -51,7 +51,7 @@ pub fn same_columns(a: &[Column], b: &[Column]) -> bool {
     a.len() == b.len()
 }
 
-pub fn same_terms<F: Field>(a: &[Term<F>], b: &[Term<F>]) -> bool {
+pub(crate) fn same_terms<F: Field>(a: &[Term<F>], b: &[Term<F>]) -> bool {
     for (x, y) in a.iter().zip(b.iter()) {
         if x.number != y.number || x.coefficient.code() != y.coefficient.code() {
             return false;
@@ -61,7 +61,7 @@ pub fn same_terms<F: Field>(a: &[Term<F>], b: &[Term<F>]) -> bool {
 }
 
 // A list of n equal values.
-pub fn filled<T: Copy>(heap: Global, value: T, n: usize) -> Result<Vec<T>, AllocError> {
+pub(crate) fn filled<T: Copy>(heap: Global, value: T, n: usize) -> Result<Vec<T>, AllocError> {
     let mut list = Vec::new(heap);
     for _ in 0..n {
         list.push(value)?;

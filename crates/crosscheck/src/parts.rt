@@ -2,7 +2,7 @@
 use cell::cube::Cube;
 use cell::simplex::Simplex;
 
-pub fn point(a: u16) -> Simplex {
+pub(crate) fn point(a: u16) -> Simplex {
     Simplex {
         a,
         b: 0,
@@ -11,15 +11,15 @@ pub fn point(a: u16) -> Simplex {
     }
 }
 
-pub fn edge(a: u16, b: u16) -> Simplex {
+pub(crate) fn edge(a: u16, b: u16) -> Simplex {
     Simplex { a, b, c: 0, d: 0 }
 }
 
-pub fn triangle(a: u16, b: u16, c: u16) -> Simplex {
+pub(crate) fn triangle(a: u16, b: u16, c: u16) -> Simplex {
     Simplex { a, b, c, d: 0 }
 }
 
-pub fn hollow_triangle() -> [Simplex; 6] {
+pub(crate) fn hollow_triangle() -> [Simplex; 6] {
     [
         point(1),
         point(2),
@@ -31,7 +31,7 @@ pub fn hollow_triangle() -> [Simplex; 6] {
 }
 
 // The ten triangles of the projective plane; its faces are all points and edges on six vertices.
-pub fn plane_triangles() -> [Simplex; 10] {
+pub(crate) fn plane_triangles() -> [Simplex; 10] {
     [
         triangle(1, 2, 5),
         triangle(1, 2, 6),
@@ -47,7 +47,7 @@ pub fn plane_triangles() -> [Simplex; 10] {
 }
 
 // The cube of number i among the 27 of a unit cube and its faces, by its three base-3 digits.
-pub fn unit_cell(i: u16) -> Cube {
+pub(crate) fn unit_cell(i: u16) -> Cube {
     Cube {
         x: i % 3,
         y: i / 3 % 3,
@@ -55,7 +55,7 @@ pub fn unit_cell(i: u16) -> Cube {
     }
 }
 
-pub fn simplex(vertices: [u16; 4]) -> Simplex {
+pub(crate) fn simplex(vertices: [u16; 4]) -> Simplex {
     let [a, b, c, d] = vertices;
     Simplex { a, b, c, d }
 }

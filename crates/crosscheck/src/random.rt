@@ -2,12 +2,12 @@
 use crate::parts::simplex;
 use cell::simplex::Simplex;
 
-pub fn next(seed: u32) -> u32 {
+pub(crate) fn next(seed: u32) -> u32 {
     seed.wrapping_mul(1664525).wrapping_add(1013904223)
 }
 
 // A simplex on some of six vertices, at most four; fewer vertices come more often.
-pub fn random_simplex(seed: u32) -> Simplex {
+pub(crate) fn random_simplex(seed: u32) -> Simplex {
     let mask = if seed & 128 == 0 {
         seed >> 8 & seed >> 14
     } else {

@@ -10,9 +10,9 @@ use crate::parts::point;
 use cell::simplex::Simplex;
 use cell::simplex::SimplexKind;
 use columns::column::Column;
-use columns::term::Term;
 use field::elements::Gf3;
 use field::gf3::Gf3Field;
+use homology::term::Term;
 use kernel::fault::ModelFault;
 use kernel::memory::Entry;
 use kernel::memory::EntryPartialEq;
@@ -222,7 +222,7 @@ fn wrong_lengths(rt: &LibcRuntime) -> Result<(), AnyError> {
     )
 }
 
-pub fn refusals(rt: &LibcRuntime) -> Result<(), AnyError> {
+pub(crate) fn refusals(rt: &LibcRuntime) -> Result<(), AnyError> {
     try_calls(rt, 0, 4, &[])?;
     try_calls(rt, 4096, 4, &[])?;
     try_calls(rt, 4097, 4, &[])?;

@@ -16,8 +16,8 @@ use cell::kind::Kind;
 use cell::simplex::Simplex;
 use cell::simplex::SimplexKind;
 use columns::column::Column;
-use columns::term::Term;
 use field::field::Field;
+use homology::term::Term;
 use kernel::memory::Entry;
 use kernel::memory::Memory;
 use kernel::model::Model;
@@ -145,7 +145,7 @@ fn solid_cube(heap: Global) -> Result<Vec<Cube>, AllocError> {
     Ok(part)
 }
 
-pub fn worked_parts<F: Field>(rt: &LibcRuntime) -> Result<(), AnyError> {
+pub(crate) fn worked_parts<F: Field>(rt: &LibcRuntime) -> Result<(), AnyError> {
     let heap = rt.alloc();
     let hollow = hollow_triangle();
     measure::<F, SimplexKind>(rt, "hollow triangle", &hollow, point(0))?;

@@ -4,4 +4,3 @@ pub mod Finite
 pub mod Residues
 pub mod InverseTable
 pub mod Four
-pub mod Worked

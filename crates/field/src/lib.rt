@@ -10,4 +10,3 @@ mod inverses;
 pub mod residues;
 #[cfg(test)]
 mod tests;
-pub mod worked;

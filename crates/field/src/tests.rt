@@ -10,7 +10,6 @@ use crate::gf2::Gf2Field;
 use crate::gf3::Gf3Field;
 use crate::gf4::Gf4Field;
 use crate::gf251::Gf251Field;
-use crate::worked::worked_inverses;
 use std::test::*;
 
 fn refused<F: Field>(answer: Result<F, FieldFault>, number: u8) -> Result<(), Fail> {
@@ -57,7 +56,6 @@ fn constants_and_refusals() -> Result<(), Fail> {
 
 #[test]
 fn inverses() -> Result<(), Fail> {
-    check_eq(worked_inverses(), [126, 84, 250, 3])?;
     for (code, inverse) in [(2, 126), (3, 84), (250, 250)] {
         inverse_is::<Gf251>(code, inverse)?;
     }
