@@ -5,7 +5,7 @@ cd "$(dirname "$0")/.."
 program=$1
 
 counts() { # part, its counts
-  found=$("$program" "examples/$1" | grep '^pieces')
+  found=$("$program" "examples/$1" | grep '^pieces' | tail -n 1)
   if [ "$found" != "$2" ]; then
     echo "examples/$1: $found, not $2"
     exit 1
