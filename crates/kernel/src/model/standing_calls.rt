@@ -10,6 +10,7 @@ use field::field::Field;
 ghost use mathlib.Core.Path.{_≡_};
 ghost use Rattle.kernel.specs.Views.{view, seen};
 ghost use Rattle.kernel.specs.Calls.{Made, Entered, TakenOff, Opened};
+ghost use Rattle.kernel.specs.Exact.{Makes, Enters, TakesOff, Opens};
 
 // The most cells that a model may be made for.
 pub const MOST_CELLS: usize = 4096;
@@ -24,7 +25,8 @@ impl Standing {
         e: usize,
         m: &Memory<'_, F, C>,
     ) -> Result<Standing, ModelFault>
-        ensures { λ r. ⌜ Made n e (view (now (m .entry))) r ⌝ }
+        ensures made { λ r. ⌜ Made n e (view (now (m .entry))) r ⌝ }
+        ensures exact { λ r. ⌜ Makes (F·Field .ops) (C·Kind .kind) (view (now (m .entry))) r ⌝ }
     {
         if n == 0 || n > MOST_CELLS {
             return Err(ModelFault::BadSize);
@@ -60,7 +62,8 @@ impl Standing {
         m: Memory<'_, F, C>,
         cell: C,
     ) -> Result<(), ModelFault>
-        ensures { λ r. ⌜ Entered (now (self .entry) .model) (view (m .entry)) r (now (self .exit) .model) (seen (m .exit)) ⌝ }
+        ensures entered { λ r. ⌜ Entered (now (self .entry) .model) (view (m .entry)) r (now (self .exit) .model) (seen (m .exit)) ⌝ }
+        ensures exact { λ r. ⌜ Enters (F·Field .ops) (C·Kind .kind) cell (now (self .entry) .model) (view (m .entry)) r (now (self .exit) .model) (seen (m .exit)) ⌝ }
     {
         let Memory {
             cells,
@@ -75,7 +78,8 @@ impl Standing {
 
     // Takes the latest cell off and gives it.
     pub fn take_off<F: Field, C: Kind>(&mut self, m: Memory<'_, F, C>) -> Result<C, ModelFault>
-        ensures { λ r. ⌜ TakenOff 0 (now (self .entry) .model) (view (m .entry)) r (now (self .exit) .model) (seen (m .exit)) ⌝ }
+        ensures taken_off { λ r. ⌜ TakenOff 0 (now (self .entry) .model) (view (m .entry)) r (now (self .exit) .model) (seen (m .exit)) ⌝ }
+        ensures exact { λ r. ⌜ TakesOff (F·Field .ops) (C·Kind .kind) 0 (now (self .entry) .model) (view (m .entry)) r (now (self .exit) .model) (seen (m .exit)) ⌝ }
     {
         let Memory {
             cells,
@@ -93,7 +97,8 @@ impl Standing {
         self,
         m: &Memory<'_, F, C>,
     ) -> Result<Trial, (Standing, ModelFault)>
-        ensures { λ r. ⌜ Opened self (view (now (m .entry))) r ⌝ }
+        ensures opened { λ r. ⌜ Opened self (view (now (m .entry))) r ⌝ }
+        ensures exact { λ r. ⌜ Opens (F·Field .ops) (C·Kind .kind) self (view (now (m .entry))) r ⌝ }
     {
         if !self.model.fits(m) {
             return Err((self, ModelFault::WrongLength));

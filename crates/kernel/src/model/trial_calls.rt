@@ -11,6 +11,7 @@ use field::field::Field;
 ghost use mathlib.Core.Path.{_≡_};
 ghost use Rattle.kernel.specs.Views.{view, seen};
 ghost use Rattle.kernel.specs.Calls.{Entered, TakenOff, KeptTrial, Undone};
+ghost use Rattle.kernel.specs.Exact.{Enters, TakesOff, Keeps, Undoes};
 
 impl Trial {
     // Enters a cell as the latest one.
@@ -20,6 +21,7 @@ impl Trial {
         cell: C,
     ) -> Result<(), ModelFault>
         ensures entered { λ r. ⌜ Entered (now (self .entry) .model) (view (m .entry)) r (now (self .exit) .model) (seen (m .exit)) ⌝ }
+        ensures exact { λ r. ⌜ Enters (F·Field .ops) (C·Kind .kind) cell (now (self .entry) .model) (view (m .entry)) r (now (self .exit) .model) (seen (m .exit)) ⌝ }
         ensures mark { λ _. ⌜ now (self .exit) .mark ≡ now (self .entry) .mark ⌝ }
     {
         let Memory {
@@ -36,6 +38,7 @@ impl Trial {
     // Takes the latest cell off and gives it, if it was entered since the opening.
     pub fn take_off<F: Field, C: Kind>(&mut self, m: Memory<'_, F, C>) -> Result<C, ModelFault>
         ensures taken_off { λ r. ⌜ TakenOff (now (self .entry) .mark) (now (self .entry) .model) (view (m .entry)) r (now (self .exit) .model) (seen (m .exit)) ⌝ }
+        ensures exact { λ r. ⌜ TakesOff (F·Field .ops) (C·Kind .kind) (now (self .entry) .mark) (now (self .entry) .model) (view (m .entry)) r (now (self .exit) .model) (seen (m .exit)) ⌝ }
         ensures mark { λ _. ⌜ now (self .exit) .mark ≡ now (self .entry) .mark ⌝ }
     {
         let Memory {
@@ -61,7 +64,8 @@ impl Trial {
         self,
         m: &Memory<'_, F, C>,
     ) -> Result<Standing, (Trial, ModelFault)>
-        ensures { λ r. ⌜ KeptTrial self (view (now (m .entry))) r ⌝ }
+        ensures kept { λ r. ⌜ KeptTrial self (view (now (m .entry))) r ⌝ }
+        ensures exact { λ r. ⌜ Keeps (F·Field .ops) (C·Kind .kind) self (view (now (m .entry))) r ⌝ }
     {
         if !self.model.fits(m) {
             return Err((self, ModelFault::WrongLength));
@@ -75,7 +79,8 @@ impl Trial {
         self,
         m: Memory<'_, F, C>,
     ) -> Result<Standing, (Trial, ModelFault)>
-        ensures { λ r. ⌜ Undone self (view (m .entry)) r (seen (m .exit)) ⌝ }
+        ensures undone { λ r. ⌜ Undone self (view (m .entry)) r (seen (m .exit)) ⌝ }
+        ensures exact { λ r. ⌜ Undoes (F·Field .ops) (C·Kind .kind) self (view (m .entry)) r (seen (m .exit)) ⌝ }
     {
         let Memory {
             cells,
