@@ -7,7 +7,9 @@ source=crates/crosscheck/src/histories.rt
 
 refused() { # name, the error that must come, old text, new text
   copy=$(mktemp -d)
-  cp -r crates crates.txt target "$copy/"
+  mkdir "$copy/target"
+  cp -r crates crates.txt "$copy/"
+  cp -r target/rlib target/stamp target/log "$copy/target/"
   OLD=$3 NEW=$4 python3 - "$copy/$source" <<'P'
 import os, sys
 path = sys.argv[1]
@@ -26,6 +28,6 @@ P
 }
 
 refused "entering through the standing model while its trial is open" borrow-e0382 \
-  "let one = trial.enter" "let one = model.enter"
+  "let one = trial.enter" "let mut standing = model; let one = standing.enter"
 refused "letting a trial go" linear-value-let-go \
   "if seed & 1 == 0 {" "if one { return Err(\"let go\".into()); } if seed & 1 == 0 {"
