@@ -19,13 +19,7 @@ pub(crate) fn enter_all<F: Field, C: Kind>(
     part: &[C],
 ) -> Result<(), ModelFault> {
     for cell in part {
-        let m = Memory {
-            cells: &mut *cells,
-            index: &mut *index,
-            columns: &mut *columns,
-            entries: &mut *entries,
-            work: &mut *work,
-        };
+        let m = lend!(cells, index, columns, entries, work);
         model.enter(m, *cell)?;
     }
     Ok(())

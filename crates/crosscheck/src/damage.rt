@@ -20,27 +20,29 @@ use std::error::AnyError;
 
 const PLACES: usize = 8;
 
+fn fill<T: Copy>(places: &mut [T], value: T) {
+    for place in places.iter_mut() {
+        *place = value;
+    }
+}
+
+// Writes nonsense into every place of every slice.
 fn scribble(
     cells: &mut [Simplex],
     index: &mut [u16],
     columns: &mut [Column],
     entries: &mut [Term<Gf251>],
+    work: &mut [Term<Gf251>],
 ) {
-    for cell in cells.iter_mut() {
-        *cell = edge(9, 9);
-    }
-    for number in index.iter_mut() {
-        *number = 65535;
-    }
-    for column in columns.iter_mut() {
-        *column = BROKEN_COLUMN;
-    }
-    for entry in entries.iter_mut() {
-        *entry = Term {
-            number: 65535,
-            coefficient: Gf251::zero(),
-        };
-    }
+    let nonsense = Term {
+        number: 65535,
+        coefficient: Gf251::zero(),
+    };
+    fill(cells, edge(9, 9));
+    fill(index, 65535);
+    fill(columns, BROKEN_COLUMN);
+    fill(entries, nonsense);
+    fill(work, nonsense);
 }
 
 // Enters, asks, takes off, opens and undoes on the memory as it is: how many of the calls were refused.
@@ -54,23 +56,11 @@ fn call_all(
 ) -> usize {
     let mut standing = model;
     let mut out = [Entry { number: 0, code: 0 }; 8];
-    let m = Memory {
-        cells: &mut *cells,
-        index: &mut *index,
-        columns: &mut *columns,
-        entries: &mut *entries,
-        work: &mut *work,
-    };
+    let m = lend!(cells, index, columns, entries, work);
     let entered = standing
         .enter::<Gf251Field, SimplexKind>(m, point(7))
         .is_err();
-    let m = Memory {
-        cells: &mut *cells,
-        index: &mut *index,
-        columns: &mut *columns,
-        entries: &mut *entries,
-        work: &mut *work,
-    };
+    let m = lend!(cells, index, columns, entries, work);
     let counted = standing
         .model()
         .betti::<Gf251Field, SimplexKind>(&m, 0)
@@ -79,31 +69,13 @@ fn call_all(
         .model()
         .cycle::<Gf251Field, SimplexKind>(&m, 0, 0, &mut out)
         .is_err();
-    let m = Memory {
-        cells: &mut *cells,
-        index: &mut *index,
-        columns: &mut *columns,
-        entries: &mut *entries,
-        work: &mut *work,
-    };
+    let m = lend!(cells, index, columns, entries, work);
     let taken = standing.take_off::<Gf251Field, SimplexKind>(m).is_err();
-    let m = Memory {
-        cells: &mut *cells,
-        index: &mut *index,
-        columns: &mut *columns,
-        entries: &mut *entries,
-        work: &mut *work,
-    };
+    let m = lend!(cells, index, columns, entries, work);
     let Ok(mut trial) = standing.open::<Gf251Field, SimplexKind>(&m) else {
         return 9;
     };
-    let m = Memory {
-        cells: &mut *cells,
-        index: &mut *index,
-        columns: &mut *columns,
-        entries: &mut *entries,
-        work: &mut *work,
-    };
+    let m = lend!(cells, index, columns, entries, work);
     let tried = trial.enter::<Gf251Field, SimplexKind>(m, point(8)).is_err();
     let m = Memory {
         cells,
@@ -149,7 +121,13 @@ pub(crate) fn damaged_memory(rt: &LibcRuntime) -> Result<(), AnyError> {
         &mut work,
         &part,
     ).is_ok();
-    scribble(&mut cells, &mut index, &mut columns, &mut entries);
+    scribble(
+        &mut cells,
+        &mut index,
+        &mut columns,
+        &mut entries,
+        &mut work,
+    );
     let refused = call_all(
         model,
         &mut cells,

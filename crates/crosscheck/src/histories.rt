@@ -57,42 +57,18 @@ fn try_cells<F: Field>(
     plain: &mut Vec<Simplex>,
     seed: u32,
 ) -> Result<Standing, AnyError> {
-    let m = Memory {
-        cells: &mut *cells,
-        index: &mut *index,
-        columns: &mut *columns,
-        entries: &mut *entries,
-        work: &mut *work,
-    };
+    let m = lend!(cells, index, columns, entries, work);
     let mut trial = match model.open::<F, SimplexKind>(&m) {
         Ok(trial) => trial,
         Err(_) => return Err("a trial was refused".into()),
     };
     let first = random_simplex(seed);
     let second = random_simplex(next(seed));
-    let m = Memory {
-        cells: &mut *cells,
-        index: &mut *index,
-        columns: &mut *columns,
-        entries: &mut *entries,
-        work: &mut *work,
-    };
+    let m = lend!(cells, index, columns, entries, work);
     let one = trial.enter::<F, SimplexKind>(m, first).is_ok();
-    let m = Memory {
-        cells: &mut *cells,
-        index: &mut *index,
-        columns: &mut *columns,
-        entries: &mut *entries,
-        work: &mut *work,
-    };
+    let m = lend!(cells, index, columns, entries, work);
     let two = trial.enter::<F, SimplexKind>(m, second).is_ok();
-    let m = Memory {
-        cells: &mut *cells,
-        index: &mut *index,
-        columns: &mut *columns,
-        entries: &mut *entries,
-        work: &mut *work,
-    };
+    let m = lend!(cells, index, columns, entries, work);
     if seed & 1 == 0 {
         return match trial.undo::<F, SimplexKind>(m) {
             Ok(model) => Ok(model),

@@ -66,13 +66,7 @@ fn measure_in<F: Field, C: Kind>(
     entries: &mut [Term<F>],
     work: &mut [Term<F>],
 ) -> Result<(), AnyError> {
-    let m = Memory {
-        cells: &mut *cells,
-        index: &mut *index,
-        columns: &mut *columns,
-        entries: &mut *entries,
-        work: &mut *work,
-    };
+    let m = lend!(cells, index, columns, entries, work);
     let Ok(mut model) = Standing::new(PLACES, ROOM, &m) else {
         return Err("no model".into());
     };
