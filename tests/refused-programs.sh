@@ -1,23 +1,25 @@
 #!/usr/bin/env bash
 # Two programs that the check must turn down before it proves anything: entering through the standing model while
-# its trial is open, and letting a trial go. Each is an edit of crosscheck's trial, tried on a copy.
+# its trial is open, and letting a trial go. Each is an edit of crosscheck's trial, tried on a copy over the
+# libraries that were built in target/.
 set -euo pipefail
 cd "$(dirname "$0")/.."
-source=crates/crosscheck/src/histories.rt
+libraries=()
+for name in field cell homology columns kernel; do
+  libraries+=(--extern "$name=$PWD/target/rlib/$name.rlib")
+done
 
 refused() { # name, the error that must come, old text, new text
   copy=$(mktemp -d)
-  mkdir "$copy/target"
-  cp -r crates crates.txt "$copy/"
-  cp -r target/rlib target/stamp target/log "$copy/target/"
-  OLD=$3 NEW=$4 python3 - "$copy/$source" <<'P'
+  cp -r crates/crosscheck "$copy/"
+  OLD=$3 NEW=$4 python3 - "$copy/crosscheck/src/histories.rt" <<'P'
 import os, sys
 path = sys.argv[1]
 text = open(path).read()
 assert text.count(os.environ["OLD"]) == 1, os.environ["OLD"]
 open(path, "w").write(text.replace(os.environ["OLD"], os.environ["NEW"]))
 P
-  (cd "$copy" && rt dev crosscheck) > "$copy/log" 2>&1 || true
+  rt check "$copy/crosscheck" "${libraries[@]}" > "$copy/log" 2>&1 || true
   if ! grep -q "error\[$2\]" "$copy/log"; then
     echo "not refused: $1"
     tail -n 20 "$copy/log"
