@@ -5,7 +5,7 @@ use field::field::Field;
 use homology::term::Term;
 use kernel::memory::Memory;
 use kernel::model::Model;
-use questions::entry::Entry;
+use chains::entry::Entry;
 
 // The most entries of a cycle, and so of its coordinates.
 const MOST: usize = 64;

@@ -11,7 +11,7 @@ use field::field::Field;
 use homology::term::Term;
 use kernel::memory::Memory;
 use kernel::model::Standing;
-use questions::entry::Entry;
+use chains::entry::Entry;
 
 const PLACES: usize = 8;
 

@@ -9,7 +9,7 @@ use homology::term::Term;
 use kernel::fault::ModelFault;
 use kernel::memory::Memory;
 use kernel::model::Standing;
-use questions::entry::Entry;
+use chains::entry::Entry;
 
 // A call to try: what it is, and the cell, dimension, place or buffer length that it is given.
 #[derive(Clone, Copy)]

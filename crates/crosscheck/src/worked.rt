@@ -11,7 +11,7 @@ use field::field::Field;
 use homology::term::Term;
 use kernel::memory::Memory;
 use kernel::model::{Model, Standing};
-use questions::entry::Entry;
+use chains::entry::Entry;
 use std::alloc::{AllocError, Global};
 
 const PLACES: usize = 64;

@@ -6,7 +6,7 @@ ghost use Rattle.kernel.specs.declared.fault.ModelFault.TheVariants.{Field as Of
 use columns::boundary::BoundaryFault;
 use columns::fault::ColumnFault;
 use field::fault::FieldFault;
-use questions::fault::ChainFault;
+use chains::fault::ChainFault;
 
 // The layer that a fault comes from.
 #[derive(Clone, Copy, PartialEq, Eq, Debug)]

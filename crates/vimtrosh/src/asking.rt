@@ -11,7 +11,7 @@ use kernel::fault::ModelFault;
 use kernel::memory::Memory;
 use kernel::model::Model;
 use kernel::model::questions::HIGHEST;
-use questions::entry::Entry;
+use chains::entry::Entry;
 
 // The Betti numbers up to the highest standing dimension.
 fn betti_numbers<F: Field, C: Kind>(

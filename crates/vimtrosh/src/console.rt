@@ -4,7 +4,7 @@ use crate::fault::Fault;
 use crate::meaning::meaning;
 use crate::stop::Stop;
 use kernel::fault::ModelFault;
-use questions::entry::Entry;
+use chains::entry::Entry;
 use std::io;
 
 #[derive(Drop)]

@@ -20,7 +20,7 @@ use homology::term::Term;
 use kernel::memory::Memory;
 use kernel::model::Model;
 use kernel::model::standing_calls::MOST_CELLS;
-use questions::entry::Entry;
+use chains::entry::Entry;
 use std::alloc::Global;
 use std::io::Read;
 

@@ -6,7 +6,7 @@ pub returns : goal.returns
 returns g c = record {
   undone = search rules;
   exact = λ cells h.
-      let call = c.remove-down-to-used in
+      let call = c.remove_down_to-used in
       let t = c.args.self in
       let q = call.ensures.exact cells (record { valid = h.valid; counted = h.counted; standing = h.standing; indexed = h.indexed; stored = h.stored; in_use = h.in_use }) t.marked in
       let p = subst (λ (n : ℕ). Placed g.F.Field.ops g.C.Kind.kind (drop (n - t.mark) cells) c.args.m.cells.now call.new.index call.new.columns c.args.m.entries.now t.mark call.result) (sym h.counted) q in
