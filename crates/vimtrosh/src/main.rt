@@ -28,11 +28,12 @@ use script::Script;
 use std::env;
 use std::fs::File;
 use std::io::Read;
+use std::process::ExitCode;
 use stop::Stop;
 
 fn run_input<R: Read + Drop>(rt: &HostRuntime, says: bool, input: R) -> Result<(), Failure> {
     let mut console = Console::new(rt, says);
-    let mut script = Script::new(rt.alloc(), input);
+    let mut script = Script::new(rt.alloc(), input)?;
     match run_script(&mut console, &mut script) {
         Ok(()) => Ok(()),
         Err(Stop::BadLine(expected)) => Err(Failure::BadLine {
@@ -54,10 +55,12 @@ fn run(rt: &HostRuntime) -> Result<(), Failure> {
     }
 }
 
-fn main(rt: HostRuntime) -> Result<(), Failure> {
-    let result = run(&rt);
-    if let Err(failure) = &result {
-        let _ = rt.eprintln(*failure);
+fn main(rt: HostRuntime) -> ExitCode {
+    match run(&rt) {
+        Ok(()) => ExitCode::SUCCESS,
+        Err(failure) => {
+            let _ = rt.eprintln(failure);
+            ExitCode::FAILURE
+        }
     }
-    result
 }

@@ -14,7 +14,12 @@ pub fn meaning(fault: ModelFault) -> &'static str {
         ModelFault::NoPlace => "no cell place is left",
         ModelFault::NoRoom => "too few column entries are left",
         ModelFault::NothingToTakeOff => "there is no cell to take off",
+        ModelFault::NotNormal { place: _ } =>
+            "a number is not below the one before, or a coefficient is zero",
+        ModelFault::NoSuchCell { place: _ } => "no cell of that number stands",
+        ModelFault::OtherDimension { place: _ } => "the cell has another dimension",
         ModelFault::ShortBuffer => "the answer is longer than its buffer",
+        ModelFault::NotCycle => "the chain is no cycle",
         ModelFault::HighDimension => "the dimension is above 15",
         ModelFault::NoSuchCycle => "there is no such cycle",
         ModelFault::NoCells => "no cell stands",

@@ -16,13 +16,13 @@ pub struct Script<R> {
 }
 
 impl<R: Read + Drop> Script<R> {
-    pub fn new(heap: Global, input: R) -> Script<R> {
-        Script {
+    pub fn new(heap: Global, input: R) -> io::Result<Script<R>> {
+        Ok(Script {
             heap,
-            input: BufReader::new(input),
+            input: BufReader::new(heap, input)?,
             line: Vec::new(heap),
             number: 0,
-        }
+        })
     }
 
     // The number of the latest line, from 1.
