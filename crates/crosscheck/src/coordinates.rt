@@ -1,11 +1,11 @@
 // The coordinates of a model's own cycles: one at the cycle's place, zero at the others.
 use cell::kind::Kind;
+use chains::entry::Entry;
 use columns::column::Column;
 use field::field::Field;
 use homology::term::Term;
 use kernel::memory::Memory;
 use kernel::model::Model;
-use chains::entry::Entry;
 
 // The most entries of a cycle, and so of its coordinates.
 const MOST: usize = 64;

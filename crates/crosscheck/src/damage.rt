@@ -5,13 +5,13 @@ use crate::parts::{edge, hollow_triangle, point};
 use anyhow::anyhow;
 use cell::kind::Kind;
 use cell::simplex::Simplex;
+use chains::entry::Entry;
 use columns::column::Column;
 use field::elements::Gf251;
 use field::field::Field;
 use homology::term::Term;
 use kernel::memory::Memory;
 use kernel::model::Standing;
-use chains::entry::Entry;
 
 const PLACES: usize = 8;
 
@@ -40,7 +40,8 @@ fn scribble(
     fill(work, nonsense);
 }
 
-// Enters, asks, takes off, opens and undoes on the memory as it is: how many of the calls were refused.
+// Enters, asks, takes off, opens and undoes on the memory as it is: how many of the calls were refused, and whether
+// the coordinates were.
 fn call_all(
     model: Standing,
     cells: &mut [Simplex],
@@ -48,7 +49,7 @@ fn call_all(
     columns: &mut [Column],
     entries: &mut [Term<Gf251>],
     work: &mut [Term<Gf251>],
-) -> usize {
+) -> (usize, bool) {
     let mut standing = model;
     let mut out = [Entry { number: 0, code: 0 }; 8];
     let m = lend!(cells, index, columns, entries, work);
@@ -69,7 +70,7 @@ fn call_all(
     let taken = standing.take_off::<Gf251, Simplex>(m).is_err();
     let m = lend!(cells, index, columns, entries, work);
     let Ok(mut trial) = standing.open::<Gf251, Simplex>(&m) else {
-        return 9;
+        return (9, false);
     };
     let m = lend!(cells, index, columns, entries, work);
     let tried = trial.enter::<Gf251, Simplex>(m, point(8)).is_err();
@@ -81,12 +82,14 @@ fn call_all(
         work,
     };
     match trial.undo::<Gf251, Simplex>(m) {
-        Ok(_) => entered as usize
-            + counted as usize
-            + written as usize
-            + cleared as usize
-            + taken as usize
-            + tried as usize,
+        Ok(_) => (
+            entered as usize
+                + counted as usize
+                + written as usize
+                + taken as usize
+                + tried as usize,
+            cleared,
+        ),
         Err(_) => unreachable(),
     }
 }
@@ -126,7 +129,7 @@ pub(crate) fn damaged_memory(rt: &HostRuntime) -> anyhow::Result<()> {
         &mut entries,
         &mut work,
     );
-    let refused = call_all(
+    let (refused, cleared) = call_all(
         model,
         &mut cells,
         &mut index,
@@ -134,6 +137,7 @@ pub(crate) fn damaged_memory(rt: &HostRuntime) -> anyhow::Result<()> {
         &mut entries,
         &mut work,
     );
-    println!(rt; "damaged memory: entered {entered}, calls ended, {refused} of 6 refused")?;
+    println!(rt; "damaged memory: entered {entered}, calls ended, {refused} of 5 refused")?;
+    println!(rt; "coordinates in damaged memory: refused {cleared}")?;
     Ok(())
 }

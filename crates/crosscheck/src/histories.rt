@@ -209,7 +209,7 @@ pub(crate) fn history<F: Field>(rt: &HostRuntime, first: u32) -> anyhow::Result<
     let order = F::field_order();
     let count = plain.len();
     println!(rt;
-        "history {first} over {order}: {count} cells stand, {agreed} of {asked} agree with dense elimination and in coordinates"
+        "history {first} over {order}: {count} cells stand, {agreed} of {asked} agree with dense elimination"
     )?;
     Ok(())
 }

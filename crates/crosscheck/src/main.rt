@@ -25,7 +25,7 @@ mod worked;
 
 use damage::damaged_memory;
 use histories::history;
-use refusals::refusals;
+use refusals::{coordinate_refusals, refusals};
 use worked::worked_parts;
 
 fn run(rt: &HostRuntime) -> anyhow::Result<()> {
@@ -38,7 +38,8 @@ fn run(rt: &HostRuntime) -> anyhow::Result<()> {
     history::<field::elements::Gf4>(rt, 3)?;
     history::<field::elements::Gf251>(rt, 4)?;
     refusals(rt)?;
-    damaged_memory(rt)
+    damaged_memory(rt)?;
+    coordinate_refusals(rt)
 }
 
 fn main(rt: HostRuntime) -> anyhow::Result<()> {

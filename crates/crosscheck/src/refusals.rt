@@ -3,13 +3,13 @@ use crate::memory::{BLANK_COLUMN, blank_term, filled, same_cells, same_columns, 
 use crate::parts::{edge, point};
 use anyhow::anyhow;
 use cell::simplex::Simplex;
+use chains::entry::Entry;
 use columns::column::Column;
 use field::elements::Gf3;
 use homology::term::Term;
 use kernel::fault::ModelFault;
 use kernel::memory::Memory;
 use kernel::model::Standing;
-use chains::entry::Entry;
 
 // A call to try: what it is, and the cell, dimension, place or buffer length that it is given.
 #[derive(Clone, Copy)]
@@ -28,7 +28,7 @@ struct Chain {
     len: usize,
 }
 
-fn chain(list: &[(u16, u8)]) -> Chain {
+fn chain_of(list: &[(u16, u8)]) -> Chain {
     let mut entries = [Entry { number: 0, code: 0 }; 3];
     let mut len = 0;
     for (i, (number, code)) in list.iter().take(3).enumerate() {
@@ -175,8 +175,8 @@ fn try_calls(rt: &HostRuntime, n: usize, e: usize, calls: &[(&str, Call)]) -> an
     Ok(())
 }
 
-// Memory of other lengths than the making's.
-fn wrong_lengths(rt: &HostRuntime) -> anyhow::Result<()> {
+// Calls with memory of other lengths than the making's.
+fn wrong_lengths(rt: &HostRuntime, calls: &[(&str, Call)]) -> anyhow::Result<()> {
     let heap = rt.alloc();
     let mut cells = filled(heap, point(0), 4)?;
     let mut index = filled(heap, 0u16, 4)?;
@@ -205,61 +205,20 @@ fn wrong_lengths(rt: &HostRuntime) -> anyhow::Result<()> {
     let Ok(mut model) = Standing::new::<Gf3, Simplex>(4, 9, &m) else {
         return Err(anyhow!("no model"));
     };
-    show(
-        rt,
-        "enter with a short index",
-        &mut model,
-        &mut cells,
-        &mut short,
-        &mut columns,
-        &mut entries,
-        &mut work,
-        Call::Enter(point(1)),
-    )?;
-    show(
-        rt,
-        "take off with a short index",
-        &mut model,
-        &mut cells,
-        &mut short,
-        &mut columns,
-        &mut entries,
-        &mut work,
-        Call::TakeOff,
-    )?;
-    show(
-        rt,
-        "betti with a short index",
-        &mut model,
-        &mut cells,
-        &mut short,
-        &mut columns,
-        &mut entries,
-        &mut work,
-        Call::Betti(0),
-    )?;
-    show(
-        rt,
-        "cycle with a short index",
-        &mut model,
-        &mut cells,
-        &mut short,
-        &mut columns,
-        &mut entries,
-        &mut work,
-        Call::Cycle(0, 0, 4),
-    )?;
-    show(
-        rt,
-        "coordinates with a short index",
-        &mut model,
-        &mut cells,
-        &mut short,
-        &mut columns,
-        &mut entries,
-        &mut work,
-        Call::Coordinates(0, chain(&[]), 4),
-    )
+    for (name, call) in calls {
+        show(
+            rt,
+            name,
+            &mut model,
+            &mut cells,
+            &mut short,
+            &mut columns,
+            &mut entries,
+            &mut work,
+            *call,
+        )?;
+    }
+    Ok(())
 }
 
 pub(crate) fn refusals(rt: &HostRuntime) -> anyhow::Result<()> {
@@ -268,7 +227,13 @@ pub(crate) fn refusals(rt: &HostRuntime) -> anyhow::Result<()> {
     try_calls(rt, 4097, 4, &[])?;
     try_calls(rt, 2, 1048576, &[])?;
     try_calls(rt, 2, 1048577, &[])?;
-    wrong_lengths(rt)?;
+    let short_index = [
+        ("enter with a short index", Call::Enter(point(1))),
+        ("take off with a short index", Call::TakeOff),
+        ("betti with a short index", Call::Betti(0)),
+        ("cycle with a short index", Call::Cycle(0, 0, 4)),
+    ];
+    wrong_lengths(rt, &short_index)?;
     let entries_short = [
         ("betti of no cells", Call::Betti(0)),
         ("take off of no cells", Call::TakeOff),
@@ -300,13 +265,17 @@ pub(crate) fn refusals(rt: &HostRuntime) -> anyhow::Result<()> {
         ("take off", Call::TakeOff),
         ("cycle 1 0", Call::Cycle(1, 0, 4)),
     ];
-    try_calls(rt, 6, 12, &full)?;
-    coordinate_refusals(rt)
+    try_calls(rt, 6, 12, &full)
 }
 
-// Coordinates on the hollow triangle.
-fn coordinate_refusals(rt: &HostRuntime) -> anyhow::Result<()> {
-    let around = chain(&[(5, 2), (4, 1), (3, 2)]);
+// Coordinates with a short index, and on the hollow triangle.
+pub(crate) fn coordinate_refusals(rt: &HostRuntime) -> anyhow::Result<()> {
+    let short_index = [(
+        "coordinates with a short index",
+        Call::Coordinates(0, chain_of(&[]), 4),
+    )];
+    wrong_lengths(rt, &short_index)?;
+    let around = chain_of(&[(5, 2), (4, 1), (3, 2)]);
     let calls = [
         ("enter 1", Call::Enter(point(1))),
         ("enter 2", Call::Enter(point(2))),
@@ -318,22 +287,28 @@ fn coordinate_refusals(rt: &HostRuntime) -> anyhow::Result<()> {
         ("in no place", Call::Coordinates(1, around, 0)),
         ("in dimension 16", Call::Coordinates(16, around, 1)),
         ("in dimension 0", Call::Coordinates(0, around, 1)),
-        ("code 3", Call::Coordinates(1, chain(&[(5, 2), (9, 3)]), 1)),
-        ("coefficient 0", Call::Coordinates(1, chain(&[(5, 0)]), 1)),
+        (
+            "code 3",
+            Call::Coordinates(1, chain_of(&[(5, 2), (9, 3)]), 1),
+        ),
+        (
+            "coefficient 0",
+            Call::Coordinates(1, chain_of(&[(5, 0)]), 1),
+        ),
         (
             "number twice",
-            Call::Coordinates(1, chain(&[(5, 1), (4, 1), (4, 1)]), 1),
+            Call::Coordinates(1, chain_of(&[(5, 1), (4, 1), (4, 1)]), 1),
         ),
-        ("number 6", Call::Coordinates(1, chain(&[(6, 1)]), 1)),
+        ("number 6", Call::Coordinates(1, chain_of(&[(6, 1)]), 1)),
         (
             "a point among edges",
-            Call::Coordinates(1, chain(&[(5, 1), (2, 1)]), 1),
+            Call::Coordinates(1, chain_of(&[(5, 1), (2, 1)]), 1),
         ),
-        ("one edge", Call::Coordinates(1, chain(&[(5, 1)]), 1)),
-        ("the empty chain", Call::Coordinates(1, chain(&[]), 1)),
+        ("one edge", Call::Coordinates(1, chain_of(&[(5, 1)]), 1)),
+        ("the empty chain", Call::Coordinates(1, chain_of(&[]), 1)),
         (
             "a boundary",
-            Call::Coordinates(0, chain(&[(2, 1), (0, 2)]), 1),
+            Call::Coordinates(0, chain_of(&[(2, 1), (0, 2)]), 1),
         ),
     ];
     try_calls(rt, 6, 12, &calls)

@@ -6,12 +6,12 @@ use anyhow::anyhow;
 use cell::cube::Cube;
 use cell::kind::Kind;
 use cell::simplex::Simplex;
+use chains::entry::Entry;
 use columns::column::Column;
 use field::field::Field;
 use homology::term::Term;
 use kernel::memory::Memory;
 use kernel::model::{Model, Standing};
-use chains::entry::Entry;
 use std::alloc::{AllocError, Global};
 
 const PLACES: usize = 64;
