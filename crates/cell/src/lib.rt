@@ -1,4 +1,6 @@
 // Kinds of cells.
+#![tactic(auto)]
+
 pub mod cube;
 pub mod kind;
 pub mod pair;

@@ -1,10 +1,9 @@
 // The coordinates of a model's own cycles: one at the cycle's place, zero at the others.
 use cell::kind::Kind;
-use chains::entry::Entry;
 use columns::column::Column;
 use field::field::Field;
 use homology::term::Term;
-use kernel::memory::Memory;
+use kernel::memory::{Entry, Memory};
 use kernel::model::Model;
 
 // The most entries of a cycle, and so of its coordinates.

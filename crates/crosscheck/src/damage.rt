@@ -5,12 +5,11 @@ use crate::parts::{edge, hollow_triangle, point};
 use anyhow::anyhow;
 use cell::kind::Kind;
 use cell::simplex::Simplex;
-use chains::entry::Entry;
 use columns::column::Column;
 use field::elements::Gf251;
 use field::field::Field;
 use homology::term::Term;
-use kernel::memory::Memory;
+use kernel::memory::{Entry, Memory};
 use kernel::model::Standing;
 
 const PLACES: usize = 8;

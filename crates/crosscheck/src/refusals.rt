@@ -3,12 +3,11 @@ use crate::memory::{BLANK_COLUMN, blank_term, filled, same_cells, same_columns, 
 use crate::parts::{edge, point};
 use anyhow::anyhow;
 use cell::simplex::Simplex;
-use chains::entry::Entry;
 use columns::column::Column;
 use field::elements::Gf3;
 use homology::term::Term;
 use kernel::fault::ModelFault;
-use kernel::memory::Memory;
+use kernel::memory::{Entry, Memory};
 use kernel::model::Standing;
 
 // A call to try: what it is, and the cell, dimension, place or buffer length that it is given.

@@ -6,11 +6,10 @@ use anyhow::anyhow;
 use cell::cube::Cube;
 use cell::kind::Kind;
 use cell::simplex::Simplex;
-use chains::entry::Entry;
 use columns::column::Column;
 use field::field::Field;
 use homology::term::Term;
-use kernel::memory::Memory;
+use kernel::memory::{Entry, Memory};
 use kernel::model::{Model, Standing};
 use std::alloc::{AllocError, Global};
 

@@ -1,5 +1,5 @@
 -- The laws of the field of four elements, each by a test of all the codes.
-use Rattle.std.specs.Prelude.{◌≡◌, ℕ, ◌≤◌, min, T, ◌≢◌, bit_xor, nat_eq, refl}
+use Rattle.std.specs.Prelude.{◌≡◌, ℕ, min, T, ◌≢◌, bit_xor, nat_eq, refl}
 use Rattle.std.proofs.Common.{ap, arith, lit≤}
 use Rattle.field.specs.Fields.{FieldLaws, ones}
 use Rattle.field.specs.Four.{gf4, times}

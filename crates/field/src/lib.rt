@@ -1,4 +1,6 @@
 // Finite fields of at most 256 elements.
+#![tactic(auto)]
+
 pub mod elements;
 pub mod fault;
 pub mod field;

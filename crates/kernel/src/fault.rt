@@ -3,10 +3,10 @@ ghost use Rattle.std.specs.Prelude.{◌≡◌};
 ghost use Rattle.kernel.specs.Faults.{fault_number, fault_place, fault_layer, of_column, of_boundary, of_chain};
 ghost use Rattle.kernel.specs.declared.fault.ModelFault.TheVariants.{Field as OfField};
 
+use chains::fault::ChainFault;
 use columns::boundary::BoundaryFault;
 use columns::fault::ColumnFault;
 use field::fault::FieldFault;
-use chains::fault::ChainFault;
 
 // The layer that a fault comes from.
 #[derive(Clone, Copy, PartialEq, Eq, Debug)]

@@ -2,7 +2,7 @@
 ghost use Rattle.std.specs.Prelude.{◌≡◌};
 ghost use Rattle.vimtrosh.specs.Answers.{length_of};
 
-use chains::entry::Entry;
+use kernel::memory::Entry;
 use std::fmt;
 
 // The terms of a chain stand in the answer buffer, not here.

@@ -8,10 +8,9 @@ use crate::command::Question;
 use cell::kind::Kind;
 use field::field::Field;
 use kernel::fault::ModelFault;
-use kernel::memory::Memory;
+use kernel::memory::{Entry, Memory};
 use kernel::model::Model;
 use kernel::model::questions::HIGHEST;
-use chains::entry::Entry;
 
 // The Betti numbers up to the highest standing dimension.
 fn betti_numbers<F: Field, C: Kind>(

@@ -4,7 +4,7 @@ use crate::fault::Fault;
 use crate::meaning::meaning;
 use crate::stop::Stop;
 use kernel::fault::ModelFault;
-use chains::entry::Entry;
+use kernel::memory::Entry;
 use std::io;
 
 #[derive(Drop)]

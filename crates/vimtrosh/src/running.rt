@@ -17,10 +17,9 @@ use cell::kind::Kind;
 use columns::column::Column;
 use field::field::Field;
 use homology::term::Term;
-use kernel::memory::Memory;
+use kernel::memory::{Entry, Memory};
 use kernel::model::Model;
 use kernel::model::standing_calls::MOST_CELLS;
-use chains::entry::Entry;
 use std::alloc::Global;
 use std::io::Read;
 
