@@ -1,3 +1,5 @@
+#![tactic(auto)]
+
 // Checks of the kernel beside its proofs: worked parts, refusals, damaged memory, histories against dense elimination.
 // The five slices, lent for one call.
 macro_rules! lend {

@@ -1,5 +1,5 @@
 -- The words by which a script names fields, kinds and commands.
-use Rattle.std.specs.Prelude.{◌≡◌, ℕ, List, codes, ◌≢◌}
+use Rattle.std.specs.Prelude.{ℕ, List, codes, ◌≢◌}
 use Rattle.vimtrosh.specs.declared.command.FieldName.{FieldName}
 use Rattle.vimtrosh.specs.declared.command.FieldName.TheVariants.{Gf2, Gf3, Gf4, Gf251}
 use Rattle.vimtrosh.specs.declared.command.KindName.{KindName}

@@ -1,4 +1,6 @@
 // Reads a script and prints what its model answers: a file, or standard input where none is named.
+#![tactic(auto)]
+
 mod answer;
 mod arguments;
 mod asking;
