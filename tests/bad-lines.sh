@@ -1,13 +1,13 @@
 #!/bin/bash
 # Runs scripts that end at a bad line: what was answered before it is on standard output, standard error tells
 # the line and what was expected there, and the status is 1.
-# usage: bash tests/bad-lines.sh [PROGRAM]   (without a program, target/bin/vimtrosh is built first)
+# usage: bash tests/bad-lines.sh [PROGRAM]   (without a program, crates/vimtrosh is built first)
 set -u
 cd "$(dirname "$0")/.." || exit 2
 program=${1:-}
 if [ -z "$program" ]; then
-    rt check vimtrosh || exit 1
-    program=target/bin/vimtrosh
+    (cd crates/vimtrosh && rt run < /dev/null) || exit 1
+    program=crates/vimtrosh/out/vimtrosh
 fi
 work=$(mktemp -d) || exit 2
 trap 'rm -rf "$work"' EXIT

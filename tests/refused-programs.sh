@@ -1,25 +1,20 @@
 #!/usr/bin/env bash
-# Two programs that the check must turn down before it proves anything: entering through the standing model while
-# its trial is open, and letting a trial go. Each is an edit of crosscheck's trial, tried on a copy over the
-# libraries that were built in target/.
+# Two programs that the compiler must turn down: entering through the standing model while its trial is open, and
+# letting a trial go. Each is an edit of crosscheck's trial, tried on a copy of the crates.
 set -euo pipefail
 cd "$(dirname "$0")/.."
-libraries=()
-for name in field cell homology columns kernel; do
-  libraries+=(--extern "$name=$PWD/target/rlib/$name.rlib")
-done
 
 refused() { # name, the error that must come, old text, new text
   copy=$(mktemp -d)
-  cp -r crates/crosscheck "$copy/"
-  OLD=$3 NEW=$4 python3 - "$copy/crosscheck/src/histories.rt" <<'P'
+  tar cf - --exclude=out crates crates.txt | tar xf - -C "$copy"
+  OLD=$3 NEW=$4 python3 - "$copy/crates/crosscheck/src/histories.rt" <<'P'
 import os, sys
 path = sys.argv[1]
 text = open(path).read()
 assert text.count(os.environ["OLD"]) == 1, os.environ["OLD"]
 open(path, "w").write(text.replace(os.environ["OLD"], os.environ["NEW"]))
 P
-  rt check "$copy/crosscheck" "${libraries[@]}" > "$copy/log" 2>&1 || true
+  (cd "$copy/crates/crosscheck" && rt try) > "$copy/log" 2>&1 || true
   if ! grep -q "error\[$2\]" "$copy/log"; then
     echo "not refused: $1"
     tail -n 20 "$copy/log"
@@ -32,4 +27,4 @@ P
 refused "entering through the standing model while its trial is open" borrow-e0382 \
   "let one = trial.enter" "let mut standing = model; let one = standing.enter"
 refused "letting a trial go" linear-value-let-go \
-  "if seed & 1 == 0 {" "if one { return Err(\"let go\".into()); } if seed & 1 == 0 {"
+  "if seed & 1 == 0 {" 'if one { return Err(anyhow!("let go")); } if seed & 1 == 0 {'
