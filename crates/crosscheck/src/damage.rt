@@ -39,8 +39,7 @@ fn scribble(
     fill(work, nonsense);
 }
 
-// Enters, asks, takes off, opens and undoes on the memory as it is: how many of the calls were refused, and whether
-// the coordinates were.
+// Enters, asks, takes off, opens and undoes on the memory as it is: how many of the calls were refused.
 fn call_all(
     model: Standing,
     cells: &mut [Simplex],
@@ -48,7 +47,7 @@ fn call_all(
     columns: &mut [Column],
     entries: &mut [Term<Gf251>],
     work: &mut [Term<Gf251>],
-) -> (usize, bool) {
+) -> usize {
     let mut standing = model;
     let mut out = [Entry { number: 0, code: 0 }; 8];
     let m = lend!(cells, index, columns, entries, work);
@@ -59,17 +58,11 @@ fn call_all(
         .model()
         .cycle::<Gf251, Simplex>(&m, 0, 0, &mut out)
         .is_err();
-    let damaged = [Entry { number: 2, code: 1 }];
-    let m = lend!(cells, index, columns, entries, work);
-    let cleared = standing
-        .model()
-        .coordinates::<Gf251, Simplex>(m, 0, &damaged, &mut [0; 8])
-        .is_err();
     let m = lend!(cells, index, columns, entries, work);
     let taken = standing.take_off::<Gf251, Simplex>(m).is_err();
     let m = lend!(cells, index, columns, entries, work);
     let Ok(mut trial) = standing.open::<Gf251, Simplex>(&m) else {
-        return (9, false);
+        return 9;
     };
     let m = lend!(cells, index, columns, entries, work);
     let tried = trial.enter::<Gf251, Simplex>(m, point(8)).is_err();
@@ -81,16 +74,30 @@ fn call_all(
         work,
     };
     match trial.undo::<Gf251, Simplex>(m) {
-        Ok(_) => (
-            entered as usize
-                + counted as usize
-                + written as usize
-                + taken as usize
-                + tried as usize,
-            cleared,
-        ),
+        Ok(_) => entered as usize
+            + counted as usize
+            + written as usize
+            + taken as usize
+            + tried as usize,
         Err(_) => unreachable(),
     }
+}
+
+// Asks for the coordinates of a chain in the memory as it is: whether that was refused.
+fn coordinates_refused(
+    model: &Standing,
+    cells: &mut [Simplex],
+    index: &mut [u16],
+    columns: &mut [Column],
+    entries: &mut [Term<Gf251>],
+    work: &mut [Term<Gf251>],
+) -> bool {
+    let chain = [Entry { number: 2, code: 1 }];
+    let m = lend!(cells, index, columns, entries, work);
+    model
+        .model()
+        .coordinates::<Gf251, Simplex>(m, 0, &chain, &mut [0; 8])
+        .is_err()
 }
 
 pub(crate) fn damaged_memory(rt: &HostRuntime) -> anyhow::Result<()> {
@@ -128,7 +135,22 @@ pub(crate) fn damaged_memory(rt: &HostRuntime) -> anyhow::Result<()> {
         &mut entries,
         &mut work,
     );
-    let (refused, cleared) = call_all(
+    let cleared = coordinates_refused(
+        &model,
+        &mut cells,
+        &mut index,
+        &mut columns,
+        &mut entries,
+        &mut work,
+    );
+    scribble(
+        &mut cells,
+        &mut index,
+        &mut columns,
+        &mut entries,
+        &mut work,
+    );
+    let refused = call_all(
         model,
         &mut cells,
         &mut index,
