@@ -26,19 +26,20 @@ mod refusals;
 mod worked;
 
 use damage::damaged_memory;
+use field::elements::{Gf2, Gf3, Gf4, Gf251};
 use histories::history;
 use refusals::{coordinate_refusals, refusals};
 use worked::worked_parts;
 
 fn run(rt: &HostRuntime) -> anyhow::Result<()> {
-    worked_parts::<field::elements::Gf2>(rt)?;
-    worked_parts::<field::elements::Gf3>(rt)?;
-    worked_parts::<field::elements::Gf4>(rt)?;
-    worked_parts::<field::elements::Gf251>(rt)?;
-    history::<field::elements::Gf2>(rt, 1)?;
-    history::<field::elements::Gf3>(rt, 2)?;
-    history::<field::elements::Gf4>(rt, 3)?;
-    history::<field::elements::Gf251>(rt, 4)?;
+    worked_parts::<Gf2>(rt)?;
+    worked_parts::<Gf3>(rt)?;
+    worked_parts::<Gf4>(rt)?;
+    worked_parts::<Gf251>(rt)?;
+    history::<Gf2>(rt, 1)?;
+    history::<Gf3>(rt, 2)?;
+    history::<Gf4>(rt, 3)?;
+    history::<Gf251>(rt, 4)?;
     refusals(rt)?;
     damaged_memory(rt)?;
     coordinate_refusals(rt)

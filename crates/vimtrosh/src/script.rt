@@ -1,4 +1,9 @@
 // A script: its lines are read one at a time.
+ghost use Rattle.std.specs.Prelude.{◌≡◌, IfOk, IfErr};
+ghost use Rattle.std.specs.Io.Buffered.{reader_inner};
+ghost use Rattle.std.specs.IoError.{error_kind};
+ghost use Rattle.std.specs.declared.io.ErrorKind.TheVariants.{OutOfMemory};
+
 use crate::command::Command;
 use crate::expected::Expected;
 use crate::reading::parse;
@@ -16,7 +21,11 @@ pub struct Script<R> {
 }
 
 impl<R: Read + Drop> Script<R> {
-    pub fn new(heap: Global, input: R) -> io::Result<Script<R>> {
+    // Only memory for the reader's buffer can lack; the input is let go then.
+    pub fn new(heap: Global, input: R) -> io::Result<Script<R>>
+        ensures made { IfOk result (λ script. (reader_inner script.input ≡ input) × (script.number ≡ 0)) }
+        ensures no_memory { IfErr result (λ e. error_kind e ≡ OutOfMemory) }
+    {
         Ok(Script {
             heap,
             input: BufReader::new(heap, input)?,
