@@ -1,7 +1,8 @@
 -- The field of four elements.
-use Rattle.std.specs.Prelude.{ℕ, ◌<◌, List, [], ◌∷◌, bit_xor, nat_lt, slice_index, slice_index_or}
+use Rattle.std.specs.Prelude.{ℕ, ◌<◌, List, [], ◌∷◌, bit_xor, nat_lt, slice_index, slice_index_or, refl}
+use Rattle.std.proofs.lemmas.Bool.Decides.{Decides-ltb}
 use Rattle.std.proofs.lemmas.Nat.{xor_lt}
-use Rattle.std.proofs.Common.{lit<, ltb→lt}
+use Rattle.std.proofs.Common.{lit<}
 use Rattle.field.specs.Finite.{all, at}
 use Rattle.field.specs.Fields.{FieldOf}
 use Rattle.field.specs.declared.elements.Gf4.{Gf4}
@@ -17,7 +18,7 @@ abbrev pub times : ℕ → ℕ → ℕ
 times a b = slice_index (slice_index_or products a []) b
 
 pub times_below : (a b : ℕ) → a < 4 → b < 4 → times a b < 4
-times_below a b ha hb = ltb→lt _ _ (at 4 (λ y. nat_lt (times a y) 4) (at 4 (λ x. all 4 (λ y. nat_lt (times x y) 4)) tt a ha) b hb)
+times_below a b ha hb = (Decides-ltb _ _).0 (at 4 (λ y. nat_lt (times a y) 4) (at 4 (λ x. all 4 (λ y. nat_lt (times x y) 4)) refl a ha) b hb)
 
 abbrev pub sum : Gf4 → Gf4 → Gf4
 sum x y = element (bit_xor x.code y.code) (xor_lt 2 x.code y.code x.below y.below)

@@ -1,40 +1,39 @@
 -- The laws of the field of four elements, each by a test of all the codes.
-use Rattle.std.specs.Prelude.{◌≡◌, ℕ, min, T, ◌≢◌, bit_xor, nat_eq, refl}
+use Rattle.std.specs.Prelude.{◌≡◌, ℕ, min, IsTrue, ◌==◌, ◌≢◌, bit_xor, refl}
 use Rattle.std.proofs.Common.{ap, arith, lit≤}
 use Rattle.field.specs.Fields.{FieldLaws, ones}
 use Rattle.field.specs.Four.{gf4, times}
 use Rattle.field.specs.declared.elements.Gf4.{Gf4}
-use Rattle.field.specs.Finite.{all}
-use Rattle.field.specs.Agree.{agree, agree2, agree3}
+use Rattle.field.specs.Finite.{all, agree, agree2, agree3}
 use Rattle.field.specs.Same.{same_four}
 
-by1 : (f g : ℕ → ℕ) → T (all 4 (λ a. nat_eq (f a) (g a))) → (x : Gf4) → f x.code ≡ g x.code
+by1 : (f g : ℕ → ℕ) → IsTrue (all 4 (λ a. f a == g a)) → (x : Gf4) → f x.code ≡ g x.code
 by1 f g t x = agree 4 f g t x.code x.below
 
-by2 : (f g : ℕ → ℕ → ℕ) → T (all 4 (λ a. all 4 (λ b. nat_eq (f a b) (g a b)))) → (x y : Gf4) → f x.code y.code ≡ g x.code y.code
+by2 : (f g : ℕ → ℕ → ℕ) → IsTrue (all 4 (λ a. all 4 (λ b. f a b == g a b))) → (x y : Gf4) → f x.code y.code ≡ g x.code y.code
 by2 f g t x y = agree2 4 f g t x.code y.code x.below y.below
 
-by3 : (f g : ℕ → ℕ → ℕ → ℕ) → T (all 4 (λ a. all 4 (λ b. all 4 (λ c. nat_eq (f a b c) (g a b c))))) → (x y z : Gf4) → f x.code y.code z.code ≡ g x.code y.code z.code
+by3 : (f g : ℕ → ℕ → ℕ → ℕ) → IsTrue (all 4 (λ a. all 4 (λ b. all 4 (λ c. f a b c == g a b c)))) → (x y z : Gf4) → f x.code y.code z.code ≡ g x.code y.code z.code
 by3 f g t x y z = agree3 4 f g t x.code y.code z.code x.below y.below z.below
 
 -- an element other than zero times its square is one
 cubed : (x : Gf4) → (x ≢ gf4.zero) → times x.code (times x.code x.code) ≡ 1
 cubed x h =
     let apart : x.code ≡ 0 → ⊥ = λ e. h (same_four _ _ e) in
-    let tested : times x.code (times x.code x.code) ≡ min x.code 1 = by1 (λ a. times a (times a a)) (λ a. min a 1) tt x in
+    let tested : times x.code (times x.code x.code) ≡ min x.code 1 = by1 (λ a. times a (times a a)) (λ a. min a 1) refl x in
     omega (arith, tested)
 
 pub four_laws : FieldLaws gf4
 four_laws = record {
-  sum_assoc = λ x y z. same_four _ _ (by3 (λ a b c. bit_xor (bit_xor a b) c) (λ a b c. bit_xor a (bit_xor b c)) tt x y z);
-  sum_comm = λ x y. same_four _ _ (by2 (λ a b. bit_xor a b) (λ a b. bit_xor b a) tt x y);
-  sum_zero = λ x. same_four _ _ (by1 (λ a. bit_xor a 0) (λ a. a) tt x);
-  sum_negative = λ x. same_four _ _ (by1 (λ a. bit_xor a a) (λ a. 0) tt x);
-  product_assoc = λ x y z. same_four _ _ (by3 (λ a b c. times (times a b) c) (λ a b c. times a (times b c)) tt x y z);
-  product_comm = λ x y. same_four _ _ (by2 times (λ a b. times b a) tt x y);
-  product_one = λ x. same_four _ _ (by1 (λ a. times a 1) (λ a. a) tt x);
+  sum_assoc = λ x y z. same_four _ _ (by3 (λ a b c. bit_xor (bit_xor a b) c) (λ a b c. bit_xor a (bit_xor b c)) refl x y z);
+  sum_comm = λ x y. same_four _ _ (by2 (λ a b. bit_xor a b) (λ a b. bit_xor b a) refl x y);
+  sum_zero = λ x. same_four _ _ (by1 (λ a. bit_xor a 0) (λ a. a) refl x);
+  sum_negative = λ x. same_four _ _ (by1 (λ a. bit_xor a a) (λ a. 0) refl x);
+  product_assoc = λ x y z. same_four _ _ (by3 (λ a b c. times (times a b) c) (λ a b c. times a (times b c)) refl x y z);
+  product_comm = λ x y. same_four _ _ (by2 times (λ a b. times b a) refl x y);
+  product_one = λ x. same_four _ _ (by1 (λ a. times a 1) (λ a. a) refl x);
   product_inverse = λ x h. same_four _ _ (cubed x h);
-  distributes = λ x y z. same_four _ _ (by3 (λ a b c. times a (bit_xor b c)) (λ a b c. bit_xor (times a b) (times a c)) tt x y z);
+  distributes = λ x y z. same_four _ _ (by3 (λ a b c. times a (bit_xor b c)) (λ a b c. bit_xor (times a b) (times a c)) refl x y z);
   zero_is_not_one = λ e. (let f : 0 ≡ 1 = ap (λ x. x.code) e in omega arith);
   order_at_most = lit≤ tt;
   code_below = λ x. x.below;

@@ -5,6 +5,5 @@ pub mod Residues
 pub mod InverseTable
 pub mod Four
 pub mod ResidueLaws
-pub mod Agree
 pub mod Same
 pub mod FourLaws

@@ -1,24 +1,17 @@
 -- The laws of the field of the numbers modulo q, for every q above one whose inverses pass a test.
-use Rattle.std.specs.Prelude.{◌≡◌, ℕ, zero, suc, ◌+◌, ◌*◌, ◌/◌, ◌%◌, ◌<◌, ◌≤◌, min, T, ◌≢◌, nat_eq, refl}
+use Rattle.std.specs.Prelude.{◌≡◌, ℕ, zero, suc, ◌+◌, ◌*◌, ◌/◌, ◌%◌, ◌<◌, ◌≤◌, min, IsTrue, ◌==◌, ◌≢◌, refl}
 use Rattle.std.proofs.Common.{sym, ap, ◌∙◌, mod-eq_of_lt, mul_comm, mul_assoc, mul-add, mul-one, mul_left_comm, add_assoc, add_comm, add-zero, add-sub_of_le, le_of_lt, add-one, arith}
 use Rattle.std.proofs.Math.Nat.{mod_self, mod-add-mod, add-mod-mod, mod-add-div, add-mul-mod_self_left}
+use Rattle.std.proofs.lemmas.Nat.{mul-mod_first, mul-mod_second}
 use Rattle.field.specs.declared.elements.Residue.{Residue}
 use Rattle.field.specs.Fields.{FieldLaws, ones}
 use Rattle.field.specs.Residues.{residue, residues, sum, product, negative}
-use Rattle.field.specs.Finite.{all}
-use Rattle.field.specs.Agree.{agree}
+use Rattle.field.specs.Finite.{all, agree}
 use Rattle.field.specs.Same.{same}
-
-pub mul_mod_mod : (a b q : ℕ) → (a * (b % q)) % q ≡ (a * b) % q
-mul_mod_mod a b q =
-    sym (ap (λ n. (a * n) % q) (sym (mod-add-div b q)) ∙ ap (λ n. n % q) (mul-add a (b % q) (q * (b / q)) ∙ ap (λ n. a * (b % q) + n) (mul_left_comm a q (b / q))) ∙ add-mul-mod_self_left (a * (b % q)) q (a * (b / q)))
-
-pub mod_mul_mod : (a b q : ℕ) → ((a % q) * b) % q ≡ (a * b) % q
-mod_mul_mod a b q = ap (λ n. n % q) (mul_comm (a % q) b) ∙ mul_mod_mod b a q ∙ ap (λ n. n % q) (mul_comm b a)
 
 -- the test: a number times its inverse is one, and at zero the product is zero
 module _ {q : ℕ} (pos : 0 < q) (above_one : 1 < q) (at_most : q ≤ 256) (inverted : ℕ → ℕ)
-    (tested : T (all q (λ n. nat_eq ((n * inverted n) % q) (min n 1)))) where
+    (tested : IsTrue (all q (λ n. (n * inverted n) % q == min n 1))) where
   pub rule : (n : ℕ) → 1 ≤ n → n < q → (n * inverted n) % q ≡ 1
   rule n low high = omega (arith, agree q (λ k. (k * inverted k) % q) (λ k. min k 1) tested n high)
 
@@ -39,7 +32,7 @@ module _ {q : ℕ} (pos : 0 < q) (above_one : 1 < q) (at_most : q ≤ 256) (inve
   inverts x h =
       let apart : x.code ≡ 0 → ⊥ = λ e. h (same _ _ (e ∙ sym zero_mod)) in
       let low : 1 ≤ x.code = omega arith in
-      same _ _ (simp mul_mod_mod (rule x.code low x.below ∙ sym one_mod))
+      same _ _ (simp mul-mod_second (rule x.code low x.below ∙ sym one_mod))
 
   counted : (n : ℕ) → (ones (residues pos inverted) n).code ≡ n % q
   counted zero = refl
@@ -52,11 +45,11 @@ module _ {q : ℕ} (pos : 0 < q) (above_one : 1 < q) (at_most : q ≤ 256) (inve
     sum_comm = λ x y. same _ _ (ap (λ n. n % q) (add_comm x.code y.code));
     sum_zero = λ x. same _ _ (simp (add-mod-mod, add-zero) (below_mod x));
     sum_negative = negated;
-    product_assoc = λ x y z. same _ _ (simp (mod_mul_mod, mul_mod_mod, mul_assoc));
+    product_assoc = λ x y z. same _ _ (simp (mul-mod_first, mul-mod_second, mul_assoc));
     product_comm = λ x y. same _ _ (ap (λ n. n % q) (mul_comm x.code y.code));
-    product_one = λ x. same _ _ (simp (mul_mod_mod, mul-one) (below_mod x));
+    product_one = λ x. same _ _ (simp (mul-mod_second, mul-one) (below_mod x));
     product_inverse = inverts;
-    distributes = λ x y z. same _ _ (simp (mul_mod_mod, mod-add-mod, add-mod-mod, mul-add));
+    distributes = λ x y z. same _ _ (simp (mul-mod_second, mod-add-mod, add-mod-mod, mul-add));
     zero_is_not_one = λ e. (let f : 0 % q ≡ 1 % q = ap (λ x. x.code) e in omega (arith, f, zero_mod, one_mod));
     order_at_most = at_most;
     code_below = λ x. x.below;

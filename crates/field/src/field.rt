@@ -15,15 +15,11 @@ pub trait Field: Copy
 
     const CHARACTERISTIC: u16;
 
+    ghost ORDER: { ℕ };
+
+    ghost CHARACTERISTIC: { ℕ };
+
     ghost ops: { FieldOf Self };
-
-    // The constant ORDER: generic code can read a constant only through a function.
-    fn field_order() -> u16
-        ensures { result ≡ ops.order };
-
-    // The constant CHARACTERISTIC.
-    fn field_characteristic() -> u16
-        ensures { result ≡ ops.characteristic };
 
     fn zero() -> Self
         ensures { result ≡ ops.zero };
@@ -53,6 +49,10 @@ pub trait Field: Copy
     {
         Ok(self * divisor.inverse()?)
     }
+
+    ghost order_is: { ORDER ≡ ops.order };
+
+    ghost characteristic_is: { CHARACTERISTIC ≡ ops.characteristic };
 
     ghost laws: { FieldLaws ops };
 

@@ -52,7 +52,15 @@ impl Field for Gf4 {
 
     const CHARACTERISTIC: u16 = 2;
 
+    ghost ORDER = { 4 };
+
+    ghost CHARACTERISTIC = { 2 };
+
     ghost ops = { gf4 };
+
+    ghost order_is = { Prim.search rules };
+
+    ghost characteristic_is = { Prim.search rules };
 
     ghost laws = { four_laws };
 
@@ -71,14 +79,6 @@ impl Field for Gf4 {
     ghost may_negate = { first_of (Prim.search rules, Prim.grind (arith, Self.row.coded.inj)) };
 
     ghost negated = { first_of (Prim.search rules, Prim.grind (arith, Self.row.coded.inj)) };
-
-    fn field_order() -> u16 {
-        Self::ORDER
-    }
-
-    fn field_characteristic() -> u16 {
-        Self::CHARACTERISTIC
-    }
 
     fn zero() -> Gf4 {
         Gf4 { code: 0 }

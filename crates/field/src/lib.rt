@@ -4,11 +4,9 @@
 pub mod elements;
 pub mod fault;
 pub mod field;
-pub mod gf2;
-pub mod gf251;
-pub mod gf3;
 pub mod gf4;
 mod inverses;
+pub mod primes;
 pub mod residues;
 #[cfg(test)]
 mod tests;
