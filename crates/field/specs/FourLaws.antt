@@ -1,6 +1,8 @@
--- The laws of the field of four elements, each by a test of all the codes.
+-- The laws of the field of four elements, those of the product by a test of all the codes.
 use Rattle.std.specs.Prelude.{◌≡◌, ℕ, min, IsTrue, ◌==◌, ◌≢◌, bit_xor, refl}
 use Rattle.std.proofs.Common.{ap, arith, lit≤}
+use Rattle.std.proofs.lemmas.Nat.{xor_comm}
+use Rattle.std.specs.Int.Bits.{xor_assoc, xor_self, xor_zero_r}
 use Rattle.field.specs.Fields.{FieldLaws, ones}
 use Rattle.field.specs.Four.{gf4, times}
 use Rattle.field.specs.declared.elements.Gf4.{Gf4}
@@ -25,10 +27,10 @@ cubed x h =
 
 pub four_laws : FieldLaws gf4
 four_laws = record {
-  sum_assoc = λ x y z. same_four _ _ (by3 (λ a b c. bit_xor (bit_xor a b) c) (λ a b c. bit_xor a (bit_xor b c)) refl x y z);
-  sum_comm = λ x y. same_four _ _ (by2 (λ a b. bit_xor a b) (λ a b. bit_xor b a) refl x y);
-  sum_zero = λ x. same_four _ _ (by1 (λ a. bit_xor a 0) (λ a. a) refl x);
-  sum_negative = λ x. same_four _ _ (by1 (λ a. bit_xor a a) (λ a. 0) refl x);
+  sum_assoc = λ x y z. same_four _ _ (xor_assoc x.code y.code z.code);
+  sum_comm = λ x y. same_four _ _ (xor_comm x.code y.code);
+  sum_zero = λ x. same_four _ _ (xor_zero_r x.code);
+  sum_negative = λ x. same_four _ _ (xor_self x.code);
   product_assoc = λ x y z. same_four _ _ (by3 (λ a b c. times (times a b) c) (λ a b c. times a (times b c)) refl x y z);
   product_comm = λ x y. same_four _ _ (by2 times (λ a b. times b a) refl x y);
   product_one = λ x. same_four _ _ (by1 (λ a. times a 1) (λ a. a) refl x);

@@ -66,19 +66,19 @@ impl Field for Gf4 {
 
     ghost equal = { λ x y b e t. same_four x y (Prim.search rules) };
 
-    ghost unequal = { first_of (Prim.search rules, Prim.grind (arith, Self.row.coded.inj)) };
+    ghost unequal = { Prim.search rules };
 
-    ghost may_add = { first_of (Prim.search rules, Prim.grind (arith, Self.row.coded.inj)) };
+    ghost may_add = { Prim.search rules };
 
     ghost added = { λ x y r e. same_four _ _ e };
 
-    ghost may_multiply = { first_of (Prim.search rules, Prim.grind (arith, Self.row.coded.inj)) };
+    ghost may_multiply = { Prim.search rules };
 
     ghost multiplied = { λ x y r e. same_four _ _ e };
 
-    ghost may_negate = { first_of (Prim.search rules, Prim.grind (arith, Self.row.coded.inj)) };
+    ghost may_negate = { Prim.search rules };
 
-    ghost negated = { first_of (Prim.search rules, Prim.grind (arith, Self.row.coded.inj)) };
+    ghost negated = { Prim.search rules };
 
     fn zero() -> Gf4 {
         Gf4 { code: 0 }
