@@ -22,6 +22,7 @@ pub(crate) const INVERSES: &[u8; 251] = b"\
     \x72\x19\xdf\x5e\xd7\xd1\x32\xbc\xa7\x7d\xfa";
 
 // The inverse of a code, from a table whose rule holds.
+#[tactic(auto, using(crate::proofs::InverseTable::entry))]
 pub(crate) fn entry(table: &[u8; 251], code: u8) -> u8
     requires { (InverseTable table.now) × (code < 251) }
     ensures { result ≡ code ^ 249 % 251 }

@@ -1,5 +1,5 @@
 use Rattle.std.proofs.Common.{rules}
-use lib.Bits.{xor_lt}
+use Rattle.std.proofs.lemmas.Nat.{xor_lt}
 use Rattle.field.proofs.gf4.Gf4Add.add.Goals as goal
 
 pub invariant_of-result : goal.invariant_of-result

@@ -1,6 +1,0 @@
-use Rattle.std.proofs.Common.{refl}
-use Rattle.field.specs.Same.{same_four}
-use Rattle.field.proofs.gf4.Gf4Field.zero.Goals as goal
-
-pub returns : goal.returns
-returns c = same_four _ _ refl
