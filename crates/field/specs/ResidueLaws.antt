@@ -1,7 +1,7 @@
 -- The laws of the field of the numbers modulo q, for every q above one whose inverses pass a test.
-use Rattle.std.specs.Prelude.{◌≡◌, ℕ, zero, suc, ◌+◌, ◌*◌, ◌/◌, ◌%◌, ◌<◌, ◌≤◌, min, IsTrue, ◌==◌, ◌≢◌, refl}
-use Rattle.std.proofs.Common.{sym, ap, ◌∙◌, mod-eq_of_lt, mul_comm, mul_assoc, mul-add, mul-one, mul_left_comm, add_assoc, add_comm, add-zero, add-sub_of_le, le_of_lt, add-one, arith}
-use Rattle.std.proofs.Math.Nat.{mod_self, mod-add-mod, add-mod-mod, mod-add-div, add-mul-mod_self_left}
+use Rattle.std.specs.Prelude.{◌≡◌, ℕ, zero, suc, ◌+◌, ◌*◌, ◌%◌, ◌<◌, ◌≤◌, min, IsTrue, ◌==◌, ◌≢◌, refl}
+use Rattle.std.proofs.Common.{sym, ap, ◌∙◌, mod-eq_of_lt, mul_comm, mul_assoc, mul-add, mul-one, add_assoc, add_comm, add-zero, add-sub_of_le, le_of_lt, add-one, arith}
+use Rattle.std.proofs.Math.Nat.{mod_self, mod-add-mod, add-mod-mod}
 use Rattle.std.proofs.lemmas.Nat.{mul-mod_first, mul-mod_second}
 use Rattle.field.specs.declared.elements.Residue.{Residue}
 use Rattle.field.specs.Fields.{FieldLaws, ones}

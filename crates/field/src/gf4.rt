@@ -3,7 +3,7 @@ ghost use Rattle.std.specs.Prelude.{◌≡◌, bit_xor};
 ghost use Rattle.field.specs.Four.{times, gf4};
 ghost use Rattle.field.specs.FourLaws.{four_laws};
 ghost use Rattle.field.specs.Same.{same_four};
-ghost use Rattle.std.proofs.Common.{rules, arith};
+ghost use Rattle.std.proofs.Common.{rules};
 
 use crate::elements::Gf4;
 use crate::fault::FieldFault;
@@ -13,24 +13,24 @@ use std::ops::{Add, Mul, Neg};
 // The products of the codes.
 const PRODUCTS: [[u8; 4]; 4] = [[0, 0, 0, 0], [0, 1, 2, 3], [0, 2, 3, 1], [0, 3, 1, 2]];
 
-impl Add<Gf4> for Gf4 {
-    type Output = Gf4;
+impl Add for Gf4 {
+    type Output = Self;
 
     ghost add_gives = { λ x y r. r.code ≡ bit_xor x.code y.code };
 
-    fn add(self, rhs: Gf4) -> Gf4 {
+    fn add(self, rhs: Self) -> Self {
         Gf4 {
             code: self.code ^ rhs.code,
         }
     }
 }
 
-impl Mul<Gf4> for Gf4 {
-    type Output = Gf4;
+impl Mul for Gf4 {
+    type Output = Self;
 
     ghost mul_gives = { λ x y r. r.code ≡ times x.code y.code };
 
-    fn mul(self, rhs: Gf4) -> Gf4 {
+    fn mul(self, rhs: Self) -> Self {
         Gf4 {
             code: PRODUCTS[self.code as usize][rhs.code as usize],
         }
@@ -38,11 +38,11 @@ impl Mul<Gf4> for Gf4 {
 }
 
 impl Neg for Gf4 {
-    type Output = Gf4;
+    type Output = Self;
 
     ghost neg_gives = { λ x r. r ≡ x };
 
-    fn neg(self) -> Gf4 {
+    fn neg(self) -> Self {
         self
     }
 }
@@ -80,16 +80,16 @@ impl Field for Gf4 {
 
     ghost negated = { Prim.search rules };
 
-    fn zero() -> Gf4 {
+    fn zero() -> Self {
         Gf4 { code: 0 }
     }
 
-    fn one() -> Gf4 {
+    fn one() -> Self {
         Gf4 { code: 1 }
     }
 
     // The square is the inverse.
-    fn inverse(self) -> Result<Gf4, FieldFault> {
+    fn inverse(self) -> Result<Self, FieldFault> {
         if self.code == 0 {
             Err(FieldFault::ZeroInverse)
         } else {
@@ -97,7 +97,7 @@ impl Field for Gf4 {
         }
     }
 
-    fn of_code(code: u8) -> Result<Gf4, FieldFault> {
+    fn of_code(code: u8) -> Result<Self, FieldFault> {
         if code < 4 {
             Ok(Gf4 { code })
         } else {

@@ -10,3 +10,4 @@ pub mod primes;
 pub mod residues;
 #[cfg(test)]
 mod tests;
+pub mod theorems;

@@ -5,34 +5,20 @@ use crate::field::Field;
 use std::process::Abort;
 use std::test::Fail;
 
-fn refused<F: Field>(
-    rt: &impl Abort,
-    answer: Result<F, FieldFault>,
-    number: u8,
-) -> Result<(), Fail> {
-    match answer {
-        Ok(_) => Err(Fail::new("not refused")),
-        Err(fault) => {
-            assert_eq!(rt; fault.number(), number);
-            Ok(())
-        },
-    }
+fn number<F: Field>(answer: Result<F, FieldFault>) -> Option<u8> {
+    answer.err().map(FieldFault::number)
 }
 
 // The constants of a field, what it refuses, and that as many ones as its characteristic add to zero.
-fn field_is<F: Field>(rt: &impl Abort, order: u8, characteristic: u16) -> Result<(), Fail> {
-    assert_eq!(rt; F::field_order(), u16::from(order));
-    assert_eq!(rt; F::field_characteristic(), characteristic);
-    refused(rt, F::of_code(order), 81)?;
-    refused(rt, F::of_code(255), 81)?;
-    refused(rt, F::zero().inverse(), 80)?;
-    refused(rt, F::one().over(F::zero()), 80)?;
-    let mut sum = F::zero();
-    for _ in 0..characteristic {
-        sum = sum + F::one();
-    }
+fn field_is<F: Field>(rt: &impl Abort, order: u8, characteristic: u16) {
+    assert_eq!(rt; F::ORDER, u16::from(order));
+    assert_eq!(rt; F::CHARACTERISTIC, characteristic);
+    assert_eq!(rt; number(F::of_code(order)), Some(81));
+    assert_eq!(rt; number(F::of_code(255)), Some(81));
+    assert_eq!(rt; number(F::zero().inverse()), Some(80));
+    assert_eq!(rt; number(F::one().over(F::zero())), Some(80));
+    let sum = (0..characteristic).fold(F::zero(), |sum, _| sum + F::one());
     assert!(rt; sum.is_zero());
-    Ok(())
 }
 
 fn inverse_is<F: Field>(rt: &impl Abort, code: u8, inverse: u8) -> Result<(), Fail> {
@@ -50,11 +36,20 @@ fn product_is<F: Field>(rt: &impl Abort, a: u8, b: u8, product: u8) -> Result<()
 }
 
 #[test]
-fn constants_and_refusals(rt: HostRuntime) -> Result<(), Fail> {
-    field_is::<Gf2>(&rt, 2, 2)?;
-    field_is::<Gf3>(&rt, 3, 3)?;
-    field_is::<Gf4>(&rt, 4, 2)?;
-    field_is::<Gf251>(&rt, 251, 251)
+fn constants_and_refusals(rt: HostRuntime) {
+    field_is::<Gf2>(&rt, 2, 2);
+    field_is::<Gf3>(&rt, 3, 3);
+    field_is::<Gf4>(&rt, 4, 2);
+    field_is::<Gf251>(&rt, 251, 251);
+}
+
+#[test]
+fn faults_in_words(rt: HostRuntime) -> Result<(), Fail> {
+    let told = FieldFault::ZeroInverse.to_string(rt.alloc())?;
+    assert_eq!(rt; told.as_str(), "zero has no inverse");
+    let told = FieldFault::CodeTooLarge.to_string(rt.alloc())?;
+    assert_eq!(rt; told.as_str(), "the field has no element of that code");
+    Ok(())
 }
 
 #[test]
