@@ -206,7 +206,7 @@ pub(crate) fn history<F: Field>(rt: &HostRuntime, first: u32) -> anyhow::Result<
         &mut matrix,
         first,
     )?;
-    let order = F::field_order();
+    let order = F::ORDER;
     let count = plain.len();
     println!(rt;
         "history {first} over {order}: {count} cells stand, {agreed} of {asked} agree with dense elimination"

@@ -30,7 +30,7 @@ fn measure<F: Field, C: Kind>(
     let mut columns = filled(heap, BLANK_COLUMN, PLACES)?;
     let mut entries = filled(heap, blank_term::<F>(), ROOM)?;
     let mut work = filled(heap, blank_term::<F>(), 4 * PLACES)?;
-    let order = F::field_order();
+    let order = F::ORDER;
     print!(rt; "{name} over {order}: ")?;
     measure_in(
         rt,
