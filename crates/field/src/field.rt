@@ -8,13 +8,14 @@ use std::ops::{Add, Mul, Neg};
 
 pub trait Field: Copy
     + PartialEq
-    + Add<Self, Output = Self>
-    + Mul<Self, Output = Self>
+    + Add<Output = Self>
+    + Mul<Output = Self>
     + Neg<Output = Self> {
     const ORDER: u16;
 
     const CHARACTERISTIC: u16;
 
+    // What clauses know of the two constants.
     ghost ORDER: { ℕ };
 
     ghost CHARACTERISTIC: { ℕ };
