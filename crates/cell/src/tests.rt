@@ -22,9 +22,9 @@ fn pair<A, B>(first: A, second: B) -> Pair<A, B> {
 // The facets of the cell with their signs, and the answer past the last one.
 fn facets_are<C: Kind + PartialEq + Debug + Drop>(rt: &impl Abort, cell: C, facets: &[(C, i8)]) {
     let count = cell.facet_count();
-    assert!(rt; count as usize == facets.len());
-    for i in 0..count {
-        assert_eq!(rt; cell.facet(i), facets[i as usize]);
+    assert_eq!(rt; count as usize, facets.len());
+    for (i, facet) in (0..count).zip(facets) {
+        assert_eq!(rt; cell.facet(i), *facet);
     }
     assert_eq!(rt; cell.facet(count), (cell, 0));
 }
