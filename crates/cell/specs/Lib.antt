@@ -13,8 +13,6 @@ pub mod Axes
 pub mod SumLaws
 pub mod Products
 pub mod PairLaws
-pub mod PairFacets
-pub mod Booleans
 pub mod PairOrder
 pub mod Leibniz
 pub mod SimplexLaws
