@@ -1,11 +1,11 @@
 // Standing models: making, entering, taking off, opening a trial.
 ghost use Rattle.std.specs.Prelude.{◌≡◌};
-ghost use Rattle.kernel.specs.Views.{view, seen};
+ghost use Rattle.kernel.specs.Views.{view, SameSlices};
 ghost use Rattle.kernel.specs.Calls.{Made, Entered, TakenOff, Opened};
 ghost use Rattle.kernel.specs.Exact.{Makes, Enters, TakesOff, Opens};
 
 use crate::fault::ModelFault;
-use crate::memory::{Memory, lengths_fit};
+use crate::memory::Memory;
 use crate::model::{Model, Standing, Trial};
 use cell::kind::Kind;
 use field::field::Field;
@@ -29,12 +29,7 @@ impl Standing {
         if n == 0 || n > MOST_CELLS {
             return Err(ModelFault::BadSize);
         }
-        let cells = &*m.cells;
-        let index = &*m.index;
-        let columns = &*m.columns;
-        let entries = &*m.entries;
-        let work = &*m.work;
-        if e > MOST_ENTRIES || !lengths_fit(cells, index, columns, entries, work, n, e) {
+        if e > MOST_ENTRIES || !m.has_lengths(n, e) {
             return Err(ModelFault::WrongLength);
         }
         Ok(Standing {
@@ -57,37 +52,23 @@ impl Standing {
     // Enters a cell as the latest one.
     pub fn enter<F: Field, C: Kind>(
         &mut self,
-        m: Memory<'_, F, C>,
+        m: &mut Memory<'_, F, C>,
         cell: C,
     ) -> Result<(), ModelFault>
-        ensures entered { Entered self.old.model (view m.entry) result self.new.model (seen m.exit) }
-        ensures exact { Enters F.Field.ops C.Kind.kind cell self.old.model (view m.entry) result self.new.model (seen m.exit) }
+        ensures entered { Entered self.old.model (view m.old) result self.new.model (view m.new) }
+        ensures same_slices { SameSlices m.old m.new }
+        ensures exact { Enters F.Field.ops C.Kind.kind cell self.old.model (view m.old) result self.new.model (view m.new) }
     {
-        let Memory {
-            cells,
-            index,
-            columns,
-            entries,
-            work,
-        } = m;
-        self.model
-            .enter_cell(cells, index, columns, entries, work, cell)
+        self.model.enter_cell(m, cell)
     }
 
     // Takes the latest cell off and gives it.
-    pub fn take_off<F: Field, C: Kind>(&mut self, m: Memory<'_, F, C>) -> Result<C, ModelFault>
-        ensures taken_off { TakenOff 0 self.old.model (view m.entry) result self.new.model (seen m.exit) }
-        ensures exact { TakesOff F.Field.ops C.Kind.kind 0 self.old.model (view m.entry) result self.new.model (seen m.exit) }
+    pub fn take_off<F: Field, C: Kind>(&mut self, m: &mut Memory<'_, F, C>) -> Result<C, ModelFault>
+        ensures taken_off { TakenOff 0 self.old.model (view m.old) result self.new.model (view m.new) }
+        ensures same_slices { SameSlices m.old m.new }
+        ensures exact { TakesOff F.Field.ops C.Kind.kind 0 self.old.model (view m.old) result self.new.model (view m.new) }
     {
-        let Memory {
-            cells,
-            index,
-            columns,
-            entries,
-            work,
-        } = m;
-        self.model
-            .take_off_cell(cells, index, columns, entries, work, 0)
+        self.model.take_off_cell(m, 0)
     }
 
     // Opens a trial on the cells that stand.
