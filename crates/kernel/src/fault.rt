@@ -1,12 +1,14 @@
 // What a call on a model refuses.
-ghost use Rattle.std.specs.Prelude.{◌≡◌};
-ghost use Rattle.kernel.specs.Faults.{fault_number, fault_place, fault_layer, of_column, of_boundary, of_chain};
+ghost use Rattle.std.specs.Prelude.{◌≡◌, Some};
+ghost use Rattle.kernel.specs.Faults.{fault_number, fault_place, fault_words, fault_layer, of_column, of_boundary, of_chain};
 ghost use Rattle.kernel.specs.declared.fault.ModelFault.TheVariants.{Field as OfField};
 
 use chains::fault::ChainFault;
 use columns::boundary::BoundaryFault;
 use columns::fault::ColumnFault;
 use field::fault::FieldFault;
+use std::error::Error;
+use std::fmt;
 
 // The layer that a fault comes from.
 #[derive(Clone, Copy, PartialEq, Eq, Debug)]
@@ -15,7 +17,7 @@ pub enum Layer {
     Model,
 }
 
-#[derive(Clone, Copy)]
+#[derive(Clone, Copy, PartialEq, Eq, Debug)]
 pub enum ModelFault {
     Field { fault: FieldFault, place: usize },
     BadSize,
@@ -85,6 +87,35 @@ impl ModelFault {
         }
     }
 }
+
+// By hand, since a derive by thiserror states no output.
+impl fmt::Display for ModelFault {
+    ghost output = { λ fault. Some (fault_words fault) };
+
+    fn fmt<W: fmt::Write>(&self, f: &mut fmt::Formatter<W>) -> fmt::Result {
+        f.write_str(match *self {
+            ModelFault::Field { fault, place: _ } => return fault.fmt(f),
+            ModelFault::BadSize => "a model has 1 to 4096 cell places",
+            ModelFault::WrongLength => "a length does not fit: a model has at most 1048576 column entries",
+            ModelFault::Improper => "the cell is improper",
+            ModelFault::AlreadyStanding => "the cell stands already",
+            ModelFault::MissingFacet { facet: _ } => "the facet of that number does not stand",
+            ModelFault::NoPlace => "no cell place is left",
+            ModelFault::NoRoom => "too few column entries are left",
+            ModelFault::NothingToTakeOff => "there is no cell to take off",
+            ModelFault::NotNormal { place: _ } => "a number is not below the one before, or a coefficient is zero",
+            ModelFault::NoSuchCell { place: _ } => "no cell of that number stands",
+            ModelFault::OtherDimension { place: _ } => "the cell has another dimension",
+            ModelFault::ShortBuffer => "the answer is longer than its buffer",
+            ModelFault::NotCycle => "the chain is no cycle",
+            ModelFault::HighDimension => "the dimension is above 15",
+            ModelFault::NoSuchCycle => "there is no such cycle",
+            ModelFault::NoCells => "no cell stands",
+        })
+    }
+}
+
+impl Error for ModelFault {}
 
 // A field's fault is passed on whole; the model's rules name a place only for a chain's entry.
 impl From<FieldFault> for ModelFault {
