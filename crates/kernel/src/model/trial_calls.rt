@@ -67,10 +67,10 @@ impl Trial {
         ensures same_slices { SameSlices m.old m.new }
         ensures exact { Undoes F.Field.ops C.Kind.kind self (view m.old) result (view m.new) }
     {
-        if !self.model.fits(m) {
-            return Err((self, ModelFault::WrongLength));
-        }
         let Trial { model, mark } = self;
+        if !model.fits(m) {
+            return Err((Trial { model, mark }, ModelFault::WrongLength));
+        }
         let Model { n, e, count, used } = model;
         let cells = &mut *m.cells;
         let index = &mut *m.index;
