@@ -36,7 +36,7 @@ question_name Counts = codes "counts"
 question_name (Cycle dimension place) = codes "cycle"
 
 abbrev pub name_of : Command → List ℕ
-name_of (Part field kind cells entries) = codes "part"
+name_of (Part part) = codes "part"
 name_of (Buffer places) = codes "buffer"
 name_of (ByChange change) = change_name change
 name_of (Ask question) = question_name question

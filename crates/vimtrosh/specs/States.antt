@@ -34,20 +34,20 @@ pub record SameSizes (s s' : State) : Type 0 where
   pub e : (model_of s').e ≡ (model_of s).e
 
 -- entering or taking off: the same trial is open, or none; a refusal leaves as many cells as there were
-pub record Moved {A E : Type 0} (s : State) (more : ℕ → ℕ → Type 0) (r : State × Result A E) : Type 0 where
-  pub sizes : SameSizes s r.0
-  pub trial : (tries r.0 ≡ tries s) × (mark_of r.0 ≡ mark_of s)
-  pub count : MatchResult r.1 (λ _. more (model_of s).count (model_of r.0).count) (λ _. (model_of r.0).count ≡ (model_of s).count)
+pub record Moved {A E : Type 0} (s : State) (more : ℕ → ℕ → Type 0) (r : Result A E) (s' : State) : Type 0 where
+  pub sizes : SameSizes s s'
+  pub trial : (tries s' ≡ tries s) × (mark_of s' ≡ mark_of s)
+  pub count : MatchResult r (λ _. more (model_of s).count (model_of s').count) (λ _. (model_of s').count ≡ (model_of s).count)
 
 -- opening, keep and undo: a command out of place is a bad line; then and at a refusal the trial and the number of cells stay
-pub record Turned (opens : Bool) (lacks : Expected) (count : ℕ) (s : State) (r : State × Result (Unit {0}) Fault) : Type 0 where
-  pub sizes : SameSizes s r.0
-  pub misplaced : tries s ≡ opens → r.1 ≡ Err (BadLine lacks)
-  pub turned : MatchResult r.1 (λ _. (tries r.0 ≡ opens) × ((model_of r.0).count ≡ count)) (λ _. (tries r.0 ≡ tries s) × ((model_of r.0).count ≡ (model_of s).count))
+pub record Turned (opens : Bool) (lacks : Expected) (count : ℕ) (s : State) (r : Result (Unit {0}) Fault) (s' : State) : Type 0 where
+  pub sizes : SameSizes s s'
+  pub misplaced : tries s ≡ opens → r ≡ Err (BadLine lacks)
+  pub turned : MatchResult r (λ _. (tries s' ≡ opens) × ((model_of s').count ≡ count)) (λ _. (tries s' ≡ tries s) × ((model_of s').count ≡ (model_of s).count))
 
-abbrev pub Changed : Change → State → State × Result (Unit {0}) Fault → Type 0
-Changed (Enter numbers) s r = Moved s (λ was is. is ≡ was + 1) r
-Changed Off s r = Moved s (λ was is. is + 1 ≡ was) r
-Changed Open s r = Turned true NoTrial (model_of s).count s r
-Changed Keep s r = Turned false OpenTrial (model_of s).count s r
-Changed Undo s r = Turned false OpenTrial (mark_of s) s r
+abbrev pub Changed : Change → State → Result (Unit {0}) Fault → State → Type 0
+Changed (Enter numbers) s r s' = Moved s (λ was is. is ≡ was + 1) r s'
+Changed Off s r s' = Moved s (λ was is. is + 1 ≡ was) r s'
+Changed Open s r s' = Turned true NoTrial (model_of s).count s r s'
+Changed Keep s r s' = Turned false OpenTrial (model_of s).count s r s'
+Changed Undo s r s' = Turned false OpenTrial (mark_of s) s r s'

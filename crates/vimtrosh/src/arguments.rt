@@ -13,15 +13,12 @@ pub struct Arguments {
 pub fn read_arguments(mut words: Args) -> Option<Arguments> {
     let _ = words.next();
     let mut path = words.next();
-    let says = match &path {
-        Some(word) => word.as_str() == "--say",
-        None => false,
-    };
+    let says = path.as_ref().is_some_and(|word| word.as_str() == "--say");
     if says {
         path = words.next();
     }
-    match words.next() {
-        Some(_) => None,
-        None => Some(Arguments { says, path }),
+    if words.next().is_some() {
+        return None;
     }
+    Some(Arguments { says, path })
 }

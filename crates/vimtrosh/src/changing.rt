@@ -1,63 +1,46 @@
 // Changes of a model.
 ghost use Rattle.std.specs.Prelude.{◌≡◌, ◌+◌};
+ghost use Rattle.kernel.specs.Views.{view, SameLengths};
 ghost use Rattle.vimtrosh.specs.States.{SameSizes, Moved, Changed};
 
 use crate::command::Change;
 use crate::fault::Fault;
 use crate::from_numbers::FromNumbers;
-use crate::lending::by_parts;
 use crate::state::State;
 use field::field::Field;
 use kernel::memory::Memory;
 
 // Enters the cell that the numbers write.
 fn enter<F: Field, C: FromNumbers>(
-    m: Memory<'_, F, C>,
-    state: State,
+    m: &mut Memory<'_, F, C>,
+    state: &mut State,
     numbers: &[u16],
-) -> (State, Result<(), Fault>)
-    ensures { Moved state (λ was is. is ≡ was + 1) result }
+) -> Result<(), Fault>
+    ensures moved { Moved state.old (λ was is. is ≡ was + 1) result state.new }
+    ensures lengths { SameLengths (view m.old) (view m.new) }
 {
-    let Some(cell) = C::from_numbers(numbers) else {
-        return (state, Err(Fault::BadLine(C::expected())));
-    };
-    by_parts!(m);
-    let (state, entered) = state.enter(m, cell);
-    match entered {
-        Ok(()) => (state, Ok(())),
-        Err(fault) => (state, Err(Fault::Refused(fault))),
-    }
-}
-
-fn take_off<F: Field, C: FromNumbers>(
-    m: Memory<'_, F, C>,
-    state: State,
-) -> (State, Result<(), Fault>)
-    ensures { Moved state (λ was is. is + 1 ≡ was) result }
-{
-    by_parts!(m);
-    let (state, taken) = state.take_off(m);
-    match taken {
-        Ok(_) => (state, Ok(())),
-        Err(fault) => (state, Err(Fault::Refused(fault))),
-    }
+    let cell = C::from_numbers(numbers).ok_or(Fault::BadLine(C::expected()))?;
+    state.enter(m, cell).map_err(Fault::Refused)
 }
 
 // Carries out a change of a model.
 pub fn change_model<F: Field, C: FromNumbers>(
-    m: Memory<'_, F, C>,
-    state: State,
+    m: &mut Memory<'_, F, C>,
+    state: &mut State,
     change: Change,
-) -> (State, Result<(), Fault>)
-    ensures sizes { SameSizes state result.0 }
-    ensures changed { Changed change state result }
+) -> Result<(), Fault>
+    ensures sizes { SameSizes state.old state.new }
+    ensures changed { Changed change state.old result state.new }
+    ensures lengths { SameLengths (view m.old) (view m.new) }
 {
-    by_parts!(m);
     match change {
         Change::Enter { numbers } => enter(m, state, numbers.as_slice()),
-        Change::Off => take_off(m, state),
-        Change::Open => state.open(&m),
-        Change::Keep => state.keep(&m),
+        Change::Off => {
+            state.take_off(m).map_err(Fault::Refused)?;
+            Ok(())
+        }
+        Change::Open => state.open(m),
+        Change::Keep => state.keep(m),
         Change::Undo => state.undo(m),
     }
 }

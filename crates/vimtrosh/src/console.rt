@@ -30,9 +30,13 @@ impl<'a> Console<'a> {
         self.rt
     }
 
+    fn accept(&mut self) {
+        self.accepted = self.accepted.saturating_add(1);
+    }
+
     // Tells the answer to a question, with the chain that belongs to it.
     pub fn answer(&mut self, answer: Answer, chain: &[Entry]) -> Result<(), Stop> {
-        self.accepted = self.accepted.saturating_add(1);
+        self.accept();
         self.rt.println(Line { answer, chain })?;
         Ok(())
     }
@@ -53,7 +57,7 @@ impl<'a> Console<'a> {
     pub fn tell(&mut self, outcome: Result<(), Fault>) -> Result<(), Stop> {
         match outcome {
             Ok(()) => {
-                self.accepted = self.accepted.saturating_add(1);
+                self.accept();
                 Ok(())
             }
             Err(Fault::Refused(fault)) => self.refuse(fault),

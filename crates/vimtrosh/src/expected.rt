@@ -1,39 +1,33 @@
 // What a line lacked.
-use std::fmt;
+use std::alloc::AllocError;
+use thiserror::Error;
 
-#[derive(Clone, Copy, PartialEq, Eq, Debug)]
+#[derive(Clone, Copy, Debug, Error)]
 pub enum Expected {
+    #[error("ASCII text")]
     Ascii,
+    #[error("a command")]
     KnownCommand,
+    #[error("the order of a field: 2, 3, 4 or 251")]
     FieldOrder,
+    #[error("a kind of cells: simplex or cube")]
     KindOfCells,
+    #[error("a number from 0 to {most}")]
     NumberUpTo { most: u64 },
+    #[error("no more words")]
     EndOfLine,
+    #[error("one to four vertex numbers")]
     VertexNumbers,
+    #[error("three doubled coordinates")]
     Coordinates,
+    #[error("a part before any other command")]
     PartFirst,
+    #[error("no second part")]
     OnlyOnePart,
+    #[error("no open trial")]
     NoTrial,
+    #[error("an open trial")]
     OpenTrial,
-    MoreMemory,
-}
-
-impl fmt::Display for Expected {
-    fn fmt<W: fmt::Write>(&self, f: &mut fmt::Formatter<W>) -> fmt::Result {
-        match *self {
-            Expected::Ascii => f.write_str("ASCII text"),
-            Expected::KnownCommand => f.write_str("a command"),
-            Expected::FieldOrder => f.write_str("the order of a field: 2, 3, 4 or 251"),
-            Expected::KindOfCells => f.write_str("a kind of cells: simplex or cube"),
-            Expected::NumberUpTo { most } => write!(f, "a number from 0 to {most}"),
-            Expected::EndOfLine => f.write_str("no more words"),
-            Expected::VertexNumbers => f.write_str("one to four vertex numbers"),
-            Expected::Coordinates => f.write_str("three doubled coordinates"),
-            Expected::PartFirst => f.write_str("a part before any other command"),
-            Expected::OnlyOnePart => f.write_str("no second part"),
-            Expected::NoTrial => f.write_str("no open trial"),
-            Expected::OpenTrial => f.write_str("an open trial"),
-            Expected::MoreMemory => f.write_str("more memory"),
-        }
-    }
+    #[error("more memory")]
+    MoreMemory(#[from(alloc)] AllocError),
 }

@@ -11,7 +11,6 @@ mod expected;
 mod failure;
 mod fault;
 mod from_numbers;
-mod lending;
 mod making;
 mod meaning;
 mod part;
@@ -36,21 +35,17 @@ use stop::Stop;
 fn run_input<R: Read + Drop>(rt: &HostRuntime, says: bool, input: R) -> Result<(), Failure> {
     let mut console = Console::new(rt, says);
     let mut script = Script::new(rt.alloc(), input)?;
-    match run_script(&mut console, &mut script) {
-        Ok(()) => Ok(()),
-        Err(Stop::BadLine(expected)) => Err(Failure::BadLine {
+    run_script(&mut console, &mut script).map_err(|stop| match stop {
+        Stop::BadLine(expected) => Failure::BadLine {
             line: script.line_number(),
             expected,
-        }),
-        Err(Stop::Io(error)) => Err(Failure::Io(error)),
-    }
+        },
+        Stop::Io(error) => Failure::Io(error),
+    })
 }
 
 fn run(rt: &HostRuntime) -> Result<(), Failure> {
-    let Some(arguments) = read_arguments(env::args(rt)?) else {
-        return Err(Failure::Usage);
-    };
-    let Arguments { says, path } = arguments;
+    let Arguments { says, path } = read_arguments(env::args(rt)?).ok_or(Failure::Usage)?;
     match path {
         Some(path) => run_input(rt, says, File::open(rt, path.as_str())?),
         None => run_input(rt, says, rt.stdin()),

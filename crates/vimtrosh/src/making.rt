@@ -1,6 +1,7 @@
 // The making of a model, and the rest of the script on it.
 use crate::console::Console;
 use crate::from_numbers::FromNumbers;
+use crate::part::Outcome;
 use crate::running::{new_buffer, run_model};
 use crate::script::Script;
 use crate::state::State;
@@ -13,46 +14,24 @@ use kernel::model::Standing;
 use kernel::model::standing_calls::{MOST_CELLS, MOST_ENTRIES};
 use std::io::Read;
 
-// Makes a model in the memory that is lent and runs the script on it; false where the making is refused.
+// Makes a model in the memory that is lent and runs the script on it.
 fn run_in_memory<F: Field, C: FromNumbers, R: Read + Drop>(
     console: &mut Console<'_>,
     script: &mut Script<R>,
-    cells: &mut [C],
-    index: &mut [u16],
-    columns: &mut [Column],
-    entries: &mut [Term<F>],
-    work: &mut [Term<F>],
+    m: &mut Memory<'_, F, C>,
     n: usize,
     e: usize,
-) -> Result<bool, Stop> {
-    let m = Memory {
-        cells: &mut *cells,
-        index: &mut *index,
-        columns: &mut *columns,
-        entries: &mut *entries,
-        work: &mut *work,
-    };
-    match Standing::new(n, e, &m) {
+) -> Result<Outcome, Stop> {
+    match Standing::new(n, e, m) {
         Ok(standing) => {
             console.tell(Ok(()))?;
             let mut buffer = new_buffer(console.runtime().alloc(), n)?;
-            let start = State::Standing(standing);
-            run_model(
-                console,
-                script,
-                cells,
-                index,
-                columns,
-                entries,
-                work,
-                start,
-                &mut buffer,
-            )?;
-            Ok(true)
+            run_model(console, script, m, State::Standing(standing), &mut buffer)?;
+            Ok(Outcome::Ran)
         }
         Err(fault) => {
             console.refuse(fault)?;
-            Ok(false)
+            Ok(Outcome::Refused)
         }
     }
 }
@@ -63,7 +42,7 @@ pub fn run_sized<F: Field + Clone, C: FromNumbers + Clone, R: Read + Drop>(
     script: &mut Script<R>,
     n: usize,
     e: usize,
-) -> Result<bool, Stop> {
+) -> Result<Outcome, Stop> {
     let heap = console.runtime().alloc();
     let places = n.min(MOST_CELLS);
     let column = Column {
@@ -81,15 +60,12 @@ pub fn run_sized<F: Field + Clone, C: FromNumbers + Clone, R: Read + Drop>(
     let mut columns = vec![in heap; column; places]?;
     let mut entries = vec![in heap; term; e.min(MOST_ENTRIES)]?;
     let mut work = vec![in heap; term; 4 * places]?;
-    run_in_memory(
-        console,
-        script,
-        cells.as_mut_slice(),
-        index.as_mut_slice(),
-        columns.as_mut_slice(),
-        entries.as_mut_slice(),
-        work.as_mut_slice(),
-        n,
-        e,
-    )
+    let mut m = Memory {
+        cells: cells.as_mut_slice(),
+        index: index.as_mut_slice(),
+        columns: columns.as_mut_slice(),
+        entries: entries.as_mut_slice(),
+        work: work.as_mut_slice(),
+    };
+    run_in_memory(console, script, &mut m, n, e)
 }

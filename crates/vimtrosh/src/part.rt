@@ -1,5 +1,5 @@
 // The part of a script, over its field and of its kind of cells.
-use crate::command::{Command, FieldName, KindName};
+use crate::command::{Command, FieldName, KindName, Part};
 use crate::console::Console;
 use crate::expected::Expected;
 use crate::making::run_sized;
@@ -11,33 +11,35 @@ use field::elements::{Gf2, Gf3, Gf4, Gf251};
 use field::field::Field;
 use std::io::Read;
 
+// What became of a part: refused, or the rest of the script ran on it.
+#[derive(Clone, Copy, PartialEq, Eq, Debug)]
+pub enum Outcome {
+    Refused,
+    Ran,
+}
+
 fn run_over<F: Field + Clone, R: Read + Drop>(
     console: &mut Console<'_>,
     script: &mut Script<R>,
-    kind: KindName,
-    n: usize,
-    e: usize,
-) -> Result<bool, Stop> {
-    match kind {
-        KindName::Simplex => run_sized::<F, Simplex, R>(console, script, n, e),
-        KindName::Cube => run_sized::<F, Cube, R>(console, script, n, e),
+    part: Part,
+) -> Result<Outcome, Stop> {
+    let Part { cells, entries, .. } = part;
+    match part.kind {
+        KindName::Simplex => run_sized::<F, Simplex, R>(console, script, cells, entries),
+        KindName::Cube => run_sized::<F, Cube, R>(console, script, cells, entries),
     }
 }
 
-// Runs the rest of a script on a part of n cell places and e column entries; false where the part is refused.
 fn run_part<R: Read + Drop>(
     console: &mut Console<'_>,
     script: &mut Script<R>,
-    field: FieldName,
-    kind: KindName,
-    n: usize,
-    e: usize,
-) -> Result<bool, Stop> {
-    match field {
-        FieldName::Gf2 => run_over::<Gf2, R>(console, script, kind, n, e),
-        FieldName::Gf3 => run_over::<Gf3, R>(console, script, kind, n, e),
-        FieldName::Gf4 => run_over::<Gf4, R>(console, script, kind, n, e),
-        FieldName::Gf251 => run_over::<Gf251, R>(console, script, kind, n, e),
+    part: Part,
+) -> Result<Outcome, Stop> {
+    match part.field {
+        FieldName::Gf2 => run_over::<Gf2, R>(console, script, part),
+        FieldName::Gf3 => run_over::<Gf3, R>(console, script, part),
+        FieldName::Gf4 => run_over::<Gf4, R>(console, script, part),
+        FieldName::Gf251 => run_over::<Gf251, R>(console, script, part),
     }
 }
 
@@ -46,17 +48,11 @@ pub fn run_script<R: Read + Drop>(
     console: &mut Console<'_>,
     script: &mut Script<R>,
 ) -> Result<(), Stop> {
+    // Counted, since no proof shows that input ends.
     for _ in 0..u64::MAX {
         match script.next_command()? {
-            Some(
-                Command::Part {
-                    field,
-                    kind,
-                    cells,
-                    entries,
-                },
-            ) => {
-                if run_part(console, script, field, kind, cells, entries)? {
+            Some(Command::Part(part)) => {
+                if run_part(console, script, part)? == Outcome::Ran {
                     break;
                 }
             }

@@ -2,7 +2,7 @@
 ghost use Rattle.std.specs.Prelude.{◌≡◌, IfOk, codes, MatchOption};
 ghost use Rattle.vimtrosh.specs.Names.{name_of, NotAlone};
 
-use crate::command::{Change, Command, Question, field_named, kind_named};
+use crate::command::{Change, Command, FieldName, KindName, Part, Question};
 use crate::expected::Expected;
 use crate::words::{next_number, number_up_to};
 use std::alloc::Global;
@@ -26,23 +26,17 @@ fn lone_command(word: &str) -> Option<Command>
 fn read_part(words: &mut SplitAsciiWhitespace<'_>) -> Result<Command, Expected>
     ensures { IfOk result (λ command. name_of command ≡ codes "part") }
 {
-    let Ok(order) = next_number(words, u64::MAX) else {
-        return Err(Expected::FieldOrder);
-    };
-    let Some(field) = field_named(order) else {
-        return Err(Expected::FieldOrder);
-    };
-    let Some(kind) = kind_named(words.next().unwrap_or("")) else {
-        return Err(Expected::KindOfCells);
-    };
+    let order = next_number(words, u64::MAX).map_err(|_| Expected::FieldOrder)?;
+    let field = FieldName::try_from(order)?;
+    let kind = words.next().unwrap_or("").parse::<KindName>()?;
     let cells = next_number(words, u64::MAX)? as usize;
     let entries = next_number(words, u64::MAX)? as usize;
-    Ok(Command::Part {
+    Ok(Command::Part(Part {
         field,
         kind,
         cells,
         entries,
-    })
+    }))
 }
 
 fn read_enter(heap: Global, words: &mut SplitAsciiWhitespace<'_>) -> Result<Command, Expected>
@@ -51,9 +45,7 @@ fn read_enter(heap: Global, words: &mut SplitAsciiWhitespace<'_>) -> Result<Comm
     let mut numbers = Vec::new(heap);
     for word in words {
         let number = number_up_to(word, 65535)? as u16;
-        if numbers.push(number).is_err() {
-            return Err(Expected::MoreMemory);
-        }
+        numbers.push(number)?;
     }
     Ok(Command::Change(Change::Enter { numbers }))
 }
@@ -62,13 +54,11 @@ fn read_enter(heap: Global, words: &mut SplitAsciiWhitespace<'_>) -> Result<Comm
 fn read_betti(words: &mut SplitAsciiWhitespace<'_>) -> Result<Command, Expected>
     ensures { IfOk result (λ command. name_of command ≡ codes "betti") }
 {
-    match words.next() {
-        Some(word) => {
-            let dimension = number_up_to(word, 255)? as u8;
-            Ok(Command::Ask(Question::BettiOf { dimension }))
-        }
-        None => Ok(Command::Ask(Question::Betti)),
-    }
+    let Some(word) = words.next() else {
+        return Ok(Command::Ask(Question::Betti));
+    };
+    let dimension = number_up_to(word, 255)? as u8;
+    Ok(Command::Ask(Question::BettiOf { dimension }))
 }
 
 fn read_cycle(words: &mut SplitAsciiWhitespace<'_>) -> Result<Command, Expected>
@@ -100,19 +90,13 @@ fn read_command(
         "betti" => read_betti(words),
         "cycle" => read_cycle(words),
         "buffer" => read_buffer(words),
-        _ => match lone_command(word) {
-            Some(command) => Ok(command),
-            None => Err(Expected::KnownCommand),
-        },
+        _ => lone_command(word).ok_or(Expected::KnownCommand),
     }
 }
 
 // The command of a line, if it has one: a comment begins at `#`.
 pub fn parse(heap: Global, line: &str) -> Result<Option<Command>, Expected> {
-    let text = match line.split_once('#') {
-        Some((before, _)) => before,
-        None => line,
-    };
+    let (text, _) = line.split_once('#').unwrap_or((line, ""));
     let mut words = text.split_ascii_whitespace();
     let Some(word) = words.next() else {
         return Ok(None);

@@ -1,6 +1,6 @@
 // A run: the commands of a script, one after the other, on one model.
 ghost use Rattle.std.specs.Prelude.{◌≡◌, min, IfOk, vec_len};
-ghost use Rattle.kernel.specs.Views.{lists};
+ghost use Rattle.kernel.specs.Views.{view, SameLengths};
 ghost use Rattle.vimtrosh.specs.States.{SameSizes, FitsMemory};
 
 use crate::asking::ask;
@@ -9,28 +9,22 @@ use crate::command::{Command, Question};
 use crate::console::Console;
 use crate::expected::Expected;
 use crate::from_numbers::FromNumbers;
-use crate::lending::by_parts;
 use crate::script::Script;
 use crate::state::State;
 use crate::stop::Stop;
 use cell::kind::Kind;
-use columns::column::Column;
 use field::field::Field;
-use homology::term::Term;
 use kernel::memory::{Entry, Memory};
 use kernel::model::Model;
 use kernel::model::standing_calls::MOST_CELLS;
-use std::alloc::Global;
+use std::alloc::{AllocError, Global};
 use std::io::Read;
 
 // No answer is longer than the most cells that a model may have.
-pub fn new_buffer(heap: Global, places: usize) -> Result<Vec<Entry>, Expected>
+pub fn new_buffer(heap: Global, places: usize) -> Result<Vec<Entry>, AllocError>
     ensures { IfOk result (λ buffer. vec_len buffer ≡ min places 4096) }
 {
-    match vec![in heap; Entry { number: 0, code: 0 }; places.min(MOST_CELLS)] {
-        Ok(buffer) => Ok(buffer),
-        Err(_) => Err(Expected::MoreMemory),
-    }
+    Ok(vec![in heap; Entry { number: 0, code: 0 }; places.min(MOST_CELLS)]?)
 }
 
 fn answer_question<F: Field, C: Kind>(
@@ -51,101 +45,62 @@ fn answer_question<F: Field, C: Kind>(
 
 fn carry_out<F: Field, C: FromNumbers>(
     console: &mut Console<'_>,
-    m: Memory<'_, F, C>,
-    state: State,
+    m: &mut Memory<'_, F, C>,
+    state: &mut State,
     command: Command,
     buffer: &mut Vec<Entry>,
-) -> (State, Result<(), Stop>)
-    ensures { SameSizes state result.0 }
+) -> Result<(), Stop>
+    ensures sizes { SameSizes state.old state.new }
+    ensures lengths { SameLengths (view m.old) (view m.new) }
 {
-    by_parts!(m);
     match command {
-        Command::Part {
-            field: _,
-            kind: _,
-            cells: _,
-            entries: _,
-        } => (state, Err(Stop::BadLine(Expected::OnlyOnePart))),
-        Command::Buffer { places } => match new_buffer(console.runtime().alloc(), places) {
-            Ok(new) => {
-                *buffer = new;
-                (state, console.tell(Ok(())))
-            }
-            Err(expected) => (state, Err(Stop::BadLine(expected))),
-        },
+        Command::Part(_) => Err(Stop::BadLine(Expected::OnlyOnePart)),
+        Command::Buffer { places } => {
+            *buffer = new_buffer(console.runtime().alloc(), places)?;
+            console.tell(Ok(()))
+        }
         Command::Change(change) => {
-            let (state, outcome) = change_model(m, state, change);
-            (state, console.tell(outcome))
+            let outcome = change_model(m, state, change);
+            console.tell(outcome)
         }
         Command::Ask(question) => {
-            let told = answer_question(console, state.model(), &m, question, buffer.as_mut_slice());
-            (state, told)
+            answer_question(console, state.model(), m, question, buffer.as_mut_slice())
         }
     }
 }
 
-// Reads one command and carries it out; false at the end of the script.
-fn run_command<F: Field, C: FromNumbers, R: Read + Drop>(
+// Carries out the commands that are left.
+fn run_commands<F: Field, C: FromNumbers, R: Read + Drop>(
     console: &mut Console<'_>,
     script: &mut Script<R>,
-    m: Memory<'_, F, C>,
-    state: State,
+    m: &mut Memory<'_, F, C>,
+    state: &mut State,
     buffer: &mut Vec<Entry>,
-) -> (State, Result<bool, Stop>)
-    ensures { SameSizes state result.0 }
+) -> Result<(), Stop>
+    ensures sizes { SameSizes state.old state.new }
+    ensures lengths { SameLengths (view m.old) (view m.new) }
 {
-    let command = match script.next_command() {
-        Ok(Some(command)) => command,
-        Ok(None) => return (state, Ok(false)),
-        Err(stop) => return (state, Err(stop)),
-    };
-    by_parts!(m);
-    let (state, outcome) = carry_out(console, m, state, command, buffer);
-    match outcome {
-        Ok(()) => (state, Ok(true)),
-        Err(stop) => (state, Err(stop)),
+    // Counted, since no proof shows that input ends.
+    for _ in 0..u64::MAX {
+        let Some(command) = script.next_command()? else {
+            break;
+        };
+        carry_out(console, m, state, command, buffer)?;
     }
+    Ok(())
 }
 
 // Carries out the rest of a script on a model. A trial that is open at the end is undone.
 pub fn run_model<F: Field, C: FromNumbers, R: Read + Drop>(
     console: &mut Console<'_>,
     script: &mut Script<R>,
-    cells: &mut [C],
-    index: &mut [u16],
-    columns: &mut [Column],
-    entries: &mut [Term<F>],
-    work: &mut [Term<F>],
-    start: State,
+    m: &mut Memory<'_, F, C>,
+    mut state: State,
     buffer: &mut Vec<Entry>,
 ) -> Result<(), Stop>
-    requires { FitsMemory start (lists cells.old index.old columns.old entries.old work.old) }
+    requires { FitsMemory state (view m.old) }
 {
-    let mut state = start;
-    let mut result = Ok(true);
-    for _ in 0..u64::MAX {
-        let m = Memory {
-            cells: &mut *cells,
-            index: &mut *index,
-            columns: &mut *columns,
-            entries: &mut *entries,
-            work: &mut *work,
-        };
-        let (next, outcome) = run_command(console, script, m, state, buffer);
-        state = next;
-        result = outcome;
-        if !matches!(result, Ok(true)) {
-            break;
-        }
-    }
-    let m = Memory {
-        cells,
-        index,
-        columns,
-        entries,
-        work,
-    };
+    let outcome = run_commands(console, script, m, &mut state, buffer);
     state.close(m);
-    result?;
-    Ok(())
+    outcome
 }

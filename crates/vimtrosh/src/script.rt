@@ -48,14 +48,16 @@ impl<R: Read + Drop> Script<R> {
     }
 
     fn parse_line(&self) -> Result<Option<Command>, Expected> {
-        match str::from_utf8(self.line.as_slice()) {
-            Ok(text) if text.is_ascii() => parse(self.heap, text),
-            _ => Err(Expected::Ascii),
+        let text = str::from_utf8(self.line.as_slice()).map_err(|_| Expected::Ascii)?;
+        if !text.is_ascii() {
+            return Err(Expected::Ascii);
         }
+        parse(self.heap, text)
     }
 
     // The next command, if there is one more.
     pub fn next_command(&mut self) -> Result<Option<Command>, Stop> {
+        // Counted, since no proof shows that input ends.
         for _ in 0..u64::MAX {
             if !self.read_line()? {
                 break;

@@ -2,27 +2,19 @@
 use crate::expected::Expected;
 use std::alloc::AllocError;
 use std::io;
+use thiserror::Error;
 
-#[derive(Clone, Copy)]
+#[derive(Clone, Copy, Debug, Error)]
 pub enum Stop {
-    BadLine(Expected),
-    Io(io::Error),
+    #[error("expected {0}")]
+    BadLine(#[from] Expected),
+    #[error(transparent)]
+    Io(#[from] io::Error),
 }
 
-impl From<Expected> for Stop {
-    fn from(expected: Expected) -> Stop {
-        Stop::BadLine(expected)
-    }
-}
-
-impl From<io::Error> for Stop {
-    fn from(error: io::Error) -> Stop {
-        Stop::Io(error)
-    }
-}
-
+// Memory that is lacking ends the script at the line that asked for it.
 impl From<AllocError> for Stop {
-    fn from(_error: AllocError) -> Stop {
-        Stop::BadLine(Expected::MoreMemory)
+    fn from(error: AllocError) -> Stop {
+        Stop::BadLine(error.into())
     }
 }

@@ -22,8 +22,6 @@ pub fn number_up_to(word: &str, most: u64) -> Result<u64, Expected>
 pub fn next_number(words: &mut SplitAsciiWhitespace<'_>, most: u64) -> Result<u64, Expected>
     ensures { IfOk result (λ number. number ≤ most) }
 {
-    match words.next() {
-        Some(word) => number_up_to(word, most),
-        None => Err(Expected::NumberUpTo { most }),
-    }
+    let word = words.next().ok_or(Expected::NumberUpTo { most })?;
+    number_up_to(word, most)
 }

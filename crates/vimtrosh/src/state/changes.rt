@@ -1,14 +1,14 @@
 // What a script may do with a model, whether a trial is open or not.
 ghost use Rattle.std.specs.Prelude.{◌≡◌, ◌+◌, true, false};
-ghost use Rattle.kernel.specs.Views.{view};
+ghost use Rattle.kernel.specs.Views.{view, SameLengths};
 ghost use Rattle.vimtrosh.specs.States.{model_of, mark_of, FitsMemory, Moved, Turned};
 ghost use Rattle.vimtrosh.specs.declared.expected.Expected.TheVariants.{NoTrial as NotInTrial, OpenTrial as InTrial};
 
 use crate::expected::Expected;
 use crate::fault::Fault;
-use crate::lending::by_parts;
 use crate::state::State;
 use cell::kind::Kind;
+use core::mem::replace_with;
 use field::field::Field;
 use kernel::fault::ModelFault;
 use kernel::memory::Memory;
@@ -26,98 +26,95 @@ impl State {
     }
 
     pub fn enter<F: Field, C: Kind>(
-        self,
-        m: Memory<'_, F, C>,
+        &mut self,
+        m: &mut Memory<'_, F, C>,
         cell: C,
-    ) -> (State, Result<(), ModelFault>)
-        ensures { Moved self (λ was is. is ≡ was + 1) result }
+    ) -> Result<(), ModelFault>
+        ensures moved { Moved self.old (λ was is. is ≡ was + 1) result self.new }
+        ensures lengths { SameLengths (view m.old) (view m.new) }
     {
-        by_parts!(m);
         match self {
-            State::Standing(mut standing) => {
-                let entered = standing.enter(m, cell);
-                (State::Standing(standing), entered)
-            }
-            State::Trial(mut trial) => {
-                let entered = trial.enter(m, cell);
-                (State::Trial(trial), entered)
-            }
+            State::Standing(standing) => standing.enter(m, cell),
+            State::Trial(trial) => trial.enter(m, cell),
         }
     }
 
-    pub fn take_off<F: Field, C: Kind>(self, m: Memory<'_, F, C>) -> (State, Result<C, ModelFault>)
-        ensures { Moved self (λ was is. is + 1 ≡ was) result }
+    pub fn take_off<F: Field, C: Kind>(&mut self, m: &mut Memory<'_, F, C>) -> Result<C, ModelFault>
+        ensures moved { Moved self.old (λ was is. is + 1 ≡ was) result self.new }
+        ensures lengths { SameLengths (view m.old) (view m.new) }
     {
-        by_parts!(m);
         match self {
-            State::Standing(mut standing) => {
-                let taken = standing.take_off(m);
-                (State::Standing(standing), taken)
-            }
-            State::Trial(mut trial) => {
-                let taken = trial.take_off(m);
-                (State::Trial(trial), taken)
-            }
+            State::Standing(standing) => standing.take_off(m),
+            State::Trial(trial) => trial.take_off(m),
         }
     }
 
-    pub fn open<F: Field, C: Kind>(self, m: &Memory<'_, F, C>) -> (State, Result<(), Fault>)
-        ensures { Turned true NotInTrial (model_of self).count self result }
+    pub fn open<F: Field, C: Kind>(&mut self, m: &Memory<'_, F, C>) -> Result<(), Fault>
+        ensures { Turned true NotInTrial (model_of self.old).count self.old result self.new }
     {
-        match self {
+        replace_with(self, m, |state, m| match state {
             State::Standing(standing) => match standing.open(m) {
                 Ok(trial) => (State::Trial(trial), Ok(())),
-                Err(back) => {
-                    let (standing, fault) = back;
-                    (State::Standing(standing), Err(Fault::Refused(fault)))
-                }
+                Err((standing, fault)) => (State::Standing(standing), Err(Fault::Refused(fault))),
             },
             State::Trial(trial) => (State::Trial(trial), Err(Fault::BadLine(Expected::NoTrial))),
-        }
+        })
     }
 
-    pub fn keep<F: Field, C: Kind>(self, m: &Memory<'_, F, C>) -> (State, Result<(), Fault>)
-        ensures { Turned false InTrial (model_of self).count self result }
+    pub fn keep<F: Field, C: Kind>(&mut self, m: &Memory<'_, F, C>) -> Result<(), Fault>
+        ensures { Turned false InTrial (model_of self.old).count self.old result self.new }
     {
-        match self {
+        replace_with(self, m, |state, m| match state {
             State::Standing(standing) => (
                 State::Standing(standing),
                 Err(Fault::BadLine(Expected::OpenTrial)),
             ),
             State::Trial(trial) => match trial.keep(m) {
                 Ok(standing) => (State::Standing(standing), Ok(())),
-                Err(back) => {
-                    let (trial, fault) = back;
-                    (State::Trial(trial), Err(Fault::Refused(fault)))
-                }
+                Err((trial, fault)) => (State::Trial(trial), Err(Fault::Refused(fault))),
             },
-        }
+        })
     }
 
-    pub fn undo<F: Field, C: Kind>(self, m: Memory<'_, F, C>) -> (State, Result<(), Fault>)
-        ensures { Turned false InTrial (mark_of self) self result }
+    pub fn undo<F: Field, C: Kind>(&mut self, m: &mut Memory<'_, F, C>) -> Result<(), Fault>
+        ensures turned { Turned false InTrial (mark_of self.old) self.old result self.new }
+        ensures lengths { SameLengths (view m.old) (view m.new) }
     {
-        by_parts!(m);
-        match self {
-            State::Standing(standing) => (
-                State::Standing(standing),
-                Err(Fault::BadLine(Expected::OpenTrial)),
-            ),
-            State::Trial(trial) => match trial.undo(m) {
-                Ok(standing) => (State::Standing(standing), Ok(())),
-                Err(back) => {
-                    let (trial, fault) = back;
-                    (State::Trial(trial), Err(Fault::Refused(fault)))
+        // The closure takes the slices: no proof would know of a memory, taken whole, that it keeps their lengths.
+        let cells = &mut *m.cells;
+        let index = &mut *m.index;
+        let columns = &mut *m.columns;
+        let entries = &mut *m.entries;
+        let work = &mut *m.work;
+        replace_with(self, (), |state, _|
+            ensures { Turned false InTrial (mark_of state) state result.1 result.0 }
+        {
+            match state {
+                State::Standing(standing) => (
+                    State::Standing(standing),
+                    Err(Fault::BadLine(Expected::OpenTrial)),
+                ),
+                State::Trial(trial) => {
+                    let mut m = Memory {
+                        cells,
+                        index,
+                        columns,
+                        entries,
+                        work,
+                    };
+                    match trial.undo(&mut m) {
+                        Ok(standing) => (State::Standing(standing), Ok(())),
+                        Err((trial, fault)) => (State::Trial(trial), Err(Fault::Refused(fault))),
+                    }
                 }
-            },
-        }
+            }
+        })
     }
 
     // Undoes a trial that is open. Memory that fits is not refused.
-    pub fn close<F: Field, C: Kind>(self, m: Memory<'_, F, C>)
-        requires { FitsMemory self (view m) }
+    pub fn close<F: Field, C: Kind>(self, m: &mut Memory<'_, F, C>)
+        requires { FitsMemory self (view m.old) }
     {
-        by_parts!(m);
         match self {
             State::Standing(_) => {}
             State::Trial(trial) => match trial.undo(m) {
