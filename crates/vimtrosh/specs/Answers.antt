@@ -1,5 +1,6 @@
 -- What an answer tells, and its room in the answer buffer.
-use Rattle.std.specs.Prelude.{◌≡◌, ℕ, List}
+use Rattle.std.specs.Prelude.{◌≡◌, ℕ}
+use Rattle.arrayvec.specs.ArrayVec.{ArrayVec}
 use Rattle.kernel.specs.declared.model.Model.{Model}
 use Rattle.vimtrosh.specs.declared.answer.Answer.{Answer}
 use Rattle.vimtrosh.specs.declared.answer.Answer.TheVariants.{Cells, Betti, BettiOf, Counts, Cycle}
@@ -9,7 +10,7 @@ use Rattle.vimtrosh.specs.declared.command.Question.TheVariants.{Cells as AskCel
 -- how many entries of the buffer belong to an answer
 abbrev pub length_of : Answer → ℕ
 length_of (Cells count entries) = 0
-length_of (Betti top numbers) = 0
+length_of (Betti numbers) = 0
 length_of (BettiOf dimension number) = 0
 length_of (Counts pieces channels voids) = 0
 length_of (Cycle length) = length
@@ -17,7 +18,7 @@ length_of (Cycle length) = length
 -- an answer is one to the question
 abbrev pub Answers : Model → Question → Answer → Type 0
 Answers model AskCells answer = answer ≡ Cells model.count model.used
-Answers model AskBetti answer = (top : ℕ) × (numbers : List ℕ) × (answer ≡ Betti top numbers)
+Answers model AskBetti answer = (numbers : ArrayVec ℕ) × (answer ≡ Betti numbers)
 Answers model (AskBettiOf dimension) answer = (number : ℕ) × (answer ≡ BettiOf dimension number)
 Answers model AskCounts answer = (pieces : ℕ) × (channels : ℕ) × (voids : ℕ) × (answer ≡ Counts pieces channels voids)
 Answers model (AskCycle dimension place) answer = (length : ℕ) × (answer ≡ Cycle length)

@@ -1,6 +1,7 @@
 -- What a change does to a state: a model that stands, or one with an open trial.
 use Rattle.std.specs.Prelude.{◌≡◌, ℕ, ◌+◌, Bool, true, false, Err, Result, MatchResult}
-use Rattle.kernel.specs.Views.{View, Fits}
+use Rattle.kernel.specs.Views.{View, Fits, view, SameSlices, SameLengths}
+use Rattle.kernel.specs.declared.memory.Memory.{Memory}
 use Rattle.kernel.specs.declared.model.Model.{Model}
 use Rattle.vimtrosh.specs.declared.command.Change.{Change}
 use Rattle.vimtrosh.specs.declared.command.Change.TheVariants.{Enter, Off, Open, Keep, Undo}
@@ -27,6 +28,11 @@ mark_of (Trial t) = t.mark
 
 abbrev pub FitsMemory : {F C : Type 0} → State → View F C → Type 0
 FitsMemory s m = Fits (model_of s).n (model_of s).e m
+
+-- a memory has the slices that it had, each as long as it was
+pub record HandedBack {F C : Type 0} (m m' : Memory F C) : Type 0 where
+  pub slices : SameSlices m m'
+  pub lengths : SameLengths (view m) (view m')
 
 -- the sizes that the model was made for are the same
 pub record SameSizes (s s' : State) : Type 0 where

@@ -2,19 +2,20 @@
 ghost use Rattle.std.specs.Prelude.{◌≡◌};
 ghost use Rattle.vimtrosh.specs.Answers.{length_of};
 
+use arrayvec::ArrayVec;
 use kernel::memory::Entry;
 use std::fmt;
 
 // The terms of a chain stand in the answer buffer, not here.
-#[derive(Clone, Copy)]
+#[derive(Drop)]
 pub enum Answer {
     Cells {
         count: usize,
         entries: usize,
     },
+    // From dimension 0 to the highest one.
     Betti {
-        top: u8,
-        numbers: [usize; 16],
+        numbers: ArrayVec<usize, 16>,
     },
     BettiOf {
         dimension: u8,
@@ -32,11 +33,11 @@ pub enum Answer {
 
 impl Answer {
     // How many entries of the answer buffer belong to it.
-    pub fn length(self) -> usize
-        ensures { result ≡ length_of self }
+    pub fn length(&self) -> usize
+        ensures { result ≡ length_of self.now }
     {
         match self {
-            Answer::Cycle { length } => length,
+            Answer::Cycle { length } => *length,
             _ => 0,
         }
     }
@@ -45,26 +46,19 @@ impl Answer {
 // An answer with the chain that belongs to it.
 #[derive(Clone, Copy)]
 pub struct Line<'a> {
-    pub answer: Answer,
+    pub answer: &'a Answer,
     pub chain: &'a [Entry],
 }
 
-// The Betti numbers from dimension 0 to the highest one.
-fn write_numbers<W: fmt::Write>(
-    f: &mut fmt::Formatter<W>,
-    numbers: &[usize; 16],
-    top: u8,
-) -> fmt::Result {
-    for number in numbers.iter().take(top as usize + 1) {
+fn write_numbers<W: fmt::Write>(f: &mut fmt::Formatter<W>, numbers: &[usize]) -> fmt::Result {
+    for number in numbers {
         write!(f, " {number}")?;
     }
     Ok(())
 }
 
 fn write_chain<W: fmt::Write>(f: &mut fmt::Formatter<W>, chain: &[Entry]) -> fmt::Result {
-    for entry in chain {
-        let number = entry.number;
-        let code = entry.code;
+    for Entry { number, code } in chain {
         write!(f, " {number}:{code}")?;
     }
     Ok(())
@@ -74,9 +68,9 @@ impl fmt::Display for Line<'_> {
     fn fmt<W: fmt::Write>(&self, f: &mut fmt::Formatter<W>) -> fmt::Result {
         match self.answer {
             Answer::Cells { count, entries } => write!(f, "cells {count} entries {entries}"),
-            Answer::Betti { top, numbers } => {
+            Answer::Betti { numbers } => {
                 f.write_str("betti")?;
-                write_numbers(f, &numbers, top)
+                write_numbers(f, numbers.as_slice())
             }
             Answer::BettiOf { dimension, number } => write!(f, "betti {dimension}: {number}"),
             Answer::Counts {
@@ -84,7 +78,7 @@ impl fmt::Display for Line<'_> {
                 channels,
                 voids,
             } => { write!(f, "pieces {pieces} channels {channels} voids {voids}") }
-            Answer::Cycle { length: _ } => {
+            Answer::Cycle { .. } => {
                 f.write_str("cycle")?;
                 write_chain(f, self.chain)
             }

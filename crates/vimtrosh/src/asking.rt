@@ -5,6 +5,7 @@ ghost use Rattle.vimtrosh.specs.Answers.{length_of, Answers};
 
 use crate::answer::Answer;
 use crate::command::Question;
+use arrayvec::ArrayVec;
 use cell::kind::Kind;
 use field::field::Field;
 use kernel::fault::ModelFault;
@@ -20,13 +21,11 @@ fn betti_numbers<F: Field, C: Kind>(
     ensures { IfOk result (λ answer. Answers model.now AskBetti answer) }
 {
     let top = model.top_dimension(m)?;
-    let mut numbers = [0; 16];
-    for k in 0..=HIGHEST {
-        if k <= top {
-            numbers[k as usize] = model.betti(m, k)?;
-        }
+    let mut numbers = ArrayVec::new();
+    for k in 0..=top.min(HIGHEST) {
+        numbers.push(model.betti(m, k)?);
     }
-    Ok(Answer::Betti { top, numbers })
+    Ok(Answer::Betti { numbers })
 }
 
 fn counts<F: Field, C: Kind>(model: &Model, m: &Memory<'_, F, C>) -> Result<Answer, ModelFault>

@@ -1,7 +1,6 @@
 // Changes of a model.
 ghost use Rattle.std.specs.Prelude.{◌≡◌, ◌+◌};
-ghost use Rattle.kernel.specs.Views.{view, SameLengths};
-ghost use Rattle.vimtrosh.specs.States.{SameSizes, Moved, Changed};
+ghost use Rattle.vimtrosh.specs.States.{SameSizes, Moved, Changed, HandedBack};
 
 use crate::command::Change;
 use crate::fault::Fault;
@@ -17,7 +16,7 @@ fn enter<F: Field, C: FromNumbers>(
     numbers: &[u16],
 ) -> Result<(), Fault>
     ensures moved { Moved state.old (λ was is. is ≡ was + 1) result state.new }
-    ensures lengths { SameLengths (view m.old) (view m.new) }
+    ensures handed_back { HandedBack m.old m.new }
 {
     let cell = C::from_numbers(numbers).ok_or(Fault::BadLine(C::expected()))?;
     state.enter(m, cell).map_err(Fault::Refused)
@@ -31,7 +30,7 @@ pub fn change_model<F: Field, C: FromNumbers>(
 ) -> Result<(), Fault>
     ensures sizes { SameSizes state.old state.new }
     ensures changed { Changed change state.old result state.new }
-    ensures lengths { SameLengths (view m.old) (view m.new) }
+    ensures handed_back { HandedBack m.old m.new }
 {
     match change {
         Change::Enter { numbers } => enter(m, state, numbers.as_slice()),

@@ -36,11 +36,11 @@ impl FromNumbers for Simplex {
     }
 
     fn from_numbers(numbers: &[u16]) -> Option<Simplex> {
-        match numbers {
-            [a] => Some(vertices(*a, 0, 0, 0)),
-            [a, b] => Some(vertices(*a, *b, 0, 0)),
-            [a, b, c] => Some(vertices(*a, *b, *c, 0)),
-            [a, b, c, d] => Some(vertices(*a, *b, *c, *d)),
+        match *numbers {
+            [a] => Some(vertices(a, 0, 0, 0)),
+            [a, b] => Some(vertices(a, b, 0, 0)),
+            [a, b, c] => Some(vertices(a, b, c, 0)),
+            [a, b, c, d] => Some(vertices(a, b, c, d)),
             _ => None,
         }
     }
@@ -58,12 +58,8 @@ impl FromNumbers for Cube {
     }
 
     fn from_numbers(numbers: &[u16]) -> Option<Cube> {
-        match numbers {
-            [x, y, z] => Some(Cube {
-                x: *x,
-                y: *y,
-                z: *z,
-            }),
+        match *numbers {
+            [x, y, z] => Some(Cube { x, y, z }),
             _ => None,
         }
     }

@@ -1,7 +1,7 @@
 // A run: the commands of a script, one after the other, on one model.
 ghost use Rattle.std.specs.Prelude.{◌≡◌, min, IfOk, vec_len};
-ghost use Rattle.kernel.specs.Views.{view, SameLengths};
-ghost use Rattle.vimtrosh.specs.States.{SameSizes, FitsMemory};
+ghost use Rattle.kernel.specs.Views.{view};
+ghost use Rattle.vimtrosh.specs.States.{SameSizes, FitsMemory, HandedBack};
 
 use crate::asking::ask;
 use crate::changing::change_model;
@@ -37,7 +37,7 @@ fn answer_question<F: Field, C: Kind>(
     match ask(model, m, question, out) {
         Ok(answer) => {
             let written = &*out;
-            console.answer(answer, &written[0..answer.length()])
+            console.answer(&answer, &written[..answer.length()])
         }
         Err(fault) => console.refuse(fault),
     }
@@ -51,7 +51,7 @@ fn carry_out<F: Field, C: FromNumbers>(
     buffer: &mut Vec<Entry>,
 ) -> Result<(), Stop>
     ensures sizes { SameSizes state.old state.new }
-    ensures lengths { SameLengths (view m.old) (view m.new) }
+    ensures handed_back { HandedBack m.old m.new }
 {
     match command {
         Command::Part(_) => Err(Stop::BadLine(Expected::OnlyOnePart)),
@@ -78,7 +78,7 @@ fn run_commands<F: Field, C: FromNumbers, R: Read + Drop>(
     buffer: &mut Vec<Entry>,
 ) -> Result<(), Stop>
     ensures sizes { SameSizes state.old state.new }
-    ensures lengths { SameLengths (view m.old) (view m.new) }
+    ensures handed_back { HandedBack m.old m.new }
 {
     // Counted, since no proof shows that input ends.
     for _ in 0..u64::MAX {
@@ -99,6 +99,7 @@ pub fn run_model<F: Field, C: FromNumbers, R: Read + Drop>(
     buffer: &mut Vec<Entry>,
 ) -> Result<(), Stop>
     requires { FitsMemory state (view m.old) }
+    ensures { HandedBack m.old m.new }
 {
     let outcome = run_commands(console, script, m, &mut state, buffer);
     state.close(m);

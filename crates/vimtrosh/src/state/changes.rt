@@ -1,7 +1,7 @@
 // What a script may do with a model, whether a trial is open or not.
 ghost use Rattle.std.specs.Prelude.{◌≡◌, ◌+◌, true, false};
-ghost use Rattle.kernel.specs.Views.{view, SameLengths};
-ghost use Rattle.vimtrosh.specs.States.{model_of, mark_of, FitsMemory, Moved, Turned};
+ghost use Rattle.kernel.specs.Views.{view};
+ghost use Rattle.vimtrosh.specs.States.{model_of, mark_of, FitsMemory, Moved, Turned, HandedBack};
 ghost use Rattle.vimtrosh.specs.declared.expected.Expected.TheVariants.{NoTrial as NotInTrial, OpenTrial as InTrial};
 
 use crate::expected::Expected;
@@ -31,7 +31,7 @@ impl State {
         cell: C,
     ) -> Result<(), ModelFault>
         ensures moved { Moved self.old (λ was is. is ≡ was + 1) result self.new }
-        ensures lengths { SameLengths (view m.old) (view m.new) }
+        ensures handed_back { HandedBack m.old m.new }
     {
         match self {
             State::Standing(standing) => standing.enter(m, cell),
@@ -41,7 +41,7 @@ impl State {
 
     pub fn take_off<F: Field, C: Kind>(&mut self, m: &mut Memory<'_, F, C>) -> Result<C, ModelFault>
         ensures moved { Moved self.old (λ was is. is + 1 ≡ was) result self.new }
-        ensures lengths { SameLengths (view m.old) (view m.new) }
+        ensures handed_back { HandedBack m.old m.new }
     {
         match self {
             State::Standing(standing) => standing.take_off(m),
@@ -76,9 +76,25 @@ impl State {
         })
     }
 
+    // By value, since the end of a trial spends it.
+    fn undone<F: Field, C: Kind>(self, m: &mut Memory<'_, F, C>) -> (State, Result<(), Fault>)
+        ensures { Turned false InTrial (mark_of self) self result.1 result.0 }
+    {
+        match self {
+            State::Standing(standing) => (
+                State::Standing(standing),
+                Err(Fault::BadLine(Expected::OpenTrial)),
+            ),
+            State::Trial(trial) => match trial.undo(m) {
+                Ok(standing) => (State::Standing(standing), Ok(())),
+                Err((trial, fault)) => (State::Trial(trial), Err(Fault::Refused(fault))),
+            },
+        }
+    }
+
     pub fn undo<F: Field, C: Kind>(&mut self, m: &mut Memory<'_, F, C>) -> Result<(), Fault>
         ensures turned { Turned false InTrial (mark_of self.old) self.old result self.new }
-        ensures lengths { SameLengths (view m.old) (view m.new) }
+        ensures handed_back { HandedBack m.old m.new }
     {
         // The closure takes the slices: no proof would know of a memory, taken whole, that it keeps their lengths.
         let cells = &mut *m.cells;
@@ -86,41 +102,28 @@ impl State {
         let columns = &mut *m.columns;
         let entries = &mut *m.entries;
         let work = &mut *m.work;
-        replace_with(self, (), |state, _|
-            ensures { Turned false InTrial (mark_of state) state result.1 result.0 }
-        {
-            match state {
-                State::Standing(standing) => (
-                    State::Standing(standing),
-                    Err(Fault::BadLine(Expected::OpenTrial)),
-                ),
-                State::Trial(trial) => {
-                    let mut m = Memory {
-                        cells,
-                        index,
-                        columns,
-                        entries,
-                        work,
-                    };
-                    match trial.undo(&mut m) {
-                        Ok(standing) => (State::Standing(standing), Ok(())),
-                        Err((trial, fault)) => (State::Trial(trial), Err(Fault::Refused(fault))),
-                    }
-                }
-            }
+        replace_with(self, (), |state, _| {
+            let mut m = Memory {
+                cells,
+                index,
+                columns,
+                entries,
+                work,
+            };
+            state.undone(&mut m)
         })
     }
 
     // Undoes a trial that is open. Memory that fits is not refused.
     pub fn close<F: Field, C: Kind>(self, m: &mut Memory<'_, F, C>)
         requires { FitsMemory self (view m.old) }
+        ensures { HandedBack m.old m.new }
     {
         match self {
             State::Standing(_) => {}
-            State::Trial(trial) => match trial.undo(m) {
-                Ok(_) => {}
-                Err(_) => unreachable(),
-            },
+            State::Trial(trial) => {
+                let _ = trial.undo(m).unwrap();
+            }
         }
     }
 }
