@@ -6,7 +6,7 @@ use arrayvec::ArrayVec;
 use kernel::memory::Entry;
 use std::fmt;
 
-// The terms of a chain stand in the answer buffer, not here.
+// A chain's terms stand in the answer buffer: were it lent to the answer, no clause could say that a refusal leaves it.
 #[derive(Drop)]
 pub enum Answer {
     Cells {
