@@ -1,7 +1,6 @@
 // The making of a model, and the rest of the script on it.
 use crate::console::Console;
 use crate::from_numbers::FromNumbers;
-use crate::part::Outcome;
 use crate::running::{new_buffer, run_model};
 use crate::script::Script;
 use crate::state::State;
@@ -13,6 +12,13 @@ use kernel::memory::Memory;
 use kernel::model::Standing;
 use kernel::model::standing_calls::{MOST_CELLS, MOST_ENTRIES};
 use std::io::Read;
+
+// What became of a part: refused, or the rest of the script ran on it.
+#[derive(Clone, Copy, PartialEq, Eq, Debug)]
+pub enum Outcome {
+    Refused,
+    Ran,
+}
 
 // Makes a model in the memory that is lent and runs the script on it.
 fn run_in_memory<F: Field, C: FromNumbers, R: Read + Drop>(

@@ -2,7 +2,7 @@
 use crate::command::{Command, FieldName, KindName, Part};
 use crate::console::Console;
 use crate::expected::Expected;
-use crate::making::run_sized;
+use crate::making::{Outcome, run_sized};
 use crate::script::Script;
 use crate::stop::Stop;
 use cell::cube::Cube;
@@ -10,13 +10,6 @@ use cell::simplex::Simplex;
 use field::elements::{Gf2, Gf3, Gf4, Gf251};
 use field::field::Field;
 use std::io::Read;
-
-// What became of a part: refused, or the rest of the script ran on it.
-#[derive(Clone, Copy, PartialEq, Eq, Debug)]
-pub enum Outcome {
-    Refused,
-    Ran,
-}
 
 fn run_over<F: Field + Clone, R: Read + Drop>(
     console: &mut Console<'_>,

@@ -49,6 +49,7 @@ impl State {
         }
     }
 
+    // Opening a trial and ending one spend what stands: `replace_with` puts back what stands then.
     pub fn open<F: Field, C: Kind>(&mut self, m: &Memory<'_, F, C>) -> Result<(), Fault>
         ensures { Turned true NotInTrial (model_of self.old).count self.old result self.new }
     {
