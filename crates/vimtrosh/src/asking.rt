@@ -22,6 +22,7 @@ fn betti_numbers<F: Field, C: Kind>(
 {
     let top = model.top_dimension(m)?;
     let mut numbers = ArrayVec::new();
+    // No clause bounds the highest dimension of a kind: there is room up to HIGHEST.
     for k in 0..=top.min(HIGHEST) {
         numbers.push(model.betti(m, k)?);
     }

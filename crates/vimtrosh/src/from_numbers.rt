@@ -1,4 +1,4 @@
-// Kinds whose cells a script writes as numbers.
+// Kinds whose cells a script writes as numbers. Not `TryFrom`: it and the kinds are other crates'.
 ghost use Rattle.std.specs.Prelude.{◌≡◌, ℕ, List, Option};
 ghost use Rattle.vimtrosh.specs.Cells.{simplex, simplex_of, cube_of};
 
