@@ -1,163 +1,70 @@
 // Calls on memory that was scribbled on: each ends and stays inside.
 use crate::calls::enter_all;
-use crate::memory::{BROKEN_COLUMN, blank_term, filled};
+use crate::memory::{BROKEN_COLUMN, Lists};
 use crate::parts::{edge, hollow_triangle, point};
-use anyhow::anyhow;
-use cell::kind::Kind;
+use anyhow::bail;
 use cell::simplex::Simplex;
-use columns::column::Column;
 use field::elements::Gf251;
 use field::field::Field;
 use homology::term::Term;
 use kernel::memory::{Entry, Memory};
-use kernel::model::Standing;
+use kernel::model::{Model, Standing};
 
 const PLACES: usize = 8;
 
-fn fill<T: Copy>(places: &mut [T], value: T) {
-    for place in places.iter_mut() {
-        *place = value;
-    }
-}
+const ROOM: usize = 32;
 
 // Writes nonsense into every place of every slice.
-fn scribble(
-    cells: &mut [Simplex],
-    index: &mut [u16],
-    columns: &mut [Column],
-    entries: &mut [Term<Gf251>],
-    work: &mut [Term<Gf251>],
-) {
+fn scribble(m: &mut Memory<'_, Gf251, Simplex>) {
     let nonsense = Term {
         number: 65535,
         coefficient: Gf251::zero(),
     };
-    fill(cells, edge(9, 9));
-    fill(index, 65535);
-    fill(columns, BROKEN_COLUMN);
-    fill(entries, nonsense);
-    fill(work, nonsense);
+    m.cells.fill(edge(9, 9));
+    m.index.fill(65535);
+    m.columns.fill(BROKEN_COLUMN);
+    m.entries.fill(nonsense);
+    m.work.fill(nonsense);
 }
 
 // Enters, asks, takes off, opens and undoes on the memory as it is: how many of the calls were refused.
-fn call_all(
-    model: Standing,
-    cells: &mut [Simplex],
-    index: &mut [u16],
-    columns: &mut [Column],
-    entries: &mut [Term<Gf251>],
-    work: &mut [Term<Gf251>],
-) -> usize {
-    let mut standing = model;
-    let mut out = [Entry { number: 0, code: 0 }; 8];
-    let m = lend!(cells, index, columns, entries, work);
-    let entered = standing.enter::<Gf251, Simplex>(m, point(7)).is_err();
-    let m = lend!(cells, index, columns, entries, work);
-    let counted = standing.model().betti::<Gf251, Simplex>(&m, 0).is_err();
-    let written = standing
-        .model()
-        .cycle::<Gf251, Simplex>(&m, 0, 0, &mut out)
-        .is_err();
-    let m = lend!(cells, index, columns, entries, work);
-    let taken = standing.take_off::<Gf251, Simplex>(m).is_err();
-    let m = lend!(cells, index, columns, entries, work);
-    let Ok(mut trial) = standing.open::<Gf251, Simplex>(&m) else {
-        return 9;
+fn call_all(mut model: Standing, m: &mut Memory<'_, Gf251, Simplex>) -> anyhow::Result<usize> {
+    let mut out = [Entry { number: 0, code: 0 }; PLACES];
+    let entered = model.enter(m, point(7)).is_err();
+    let counted = model.model().betti(m, 0).is_err();
+    let written = model.model().cycle(m, 0, 0, &mut out).is_err();
+    let taken = model.take_off(m).is_err();
+    let Ok(mut trial) = model.open(m) else {
+        bail!("a trial was refused");
     };
-    let m = lend!(cells, index, columns, entries, work);
-    let tried = trial.enter::<Gf251, Simplex>(m, point(8)).is_err();
-    let m = Memory {
-        cells,
-        index,
-        columns,
-        entries,
-        work,
-    };
-    match trial.undo::<Gf251, Simplex>(m) {
-        Ok(_) => entered as usize
-            + counted as usize
-            + written as usize
-            + taken as usize
-            + tried as usize,
+    let tried = trial.enter(m, point(8)).is_err();
+    match trial.undo(m) {
+        Ok(_) => {
+            let refused = [entered, counted, written, taken, tried];
+            Ok(refused.iter().filter(|refused| **refused).count())
+        }
         Err(_) => unreachable(),
     }
 }
 
 // Asks for the coordinates of a chain in the memory as it is: whether that was refused.
-fn coordinates_refused(
-    model: &Standing,
-    cells: &mut [Simplex],
-    index: &mut [u16],
-    columns: &mut [Column],
-    entries: &mut [Term<Gf251>],
-    work: &mut [Term<Gf251>],
-) -> bool {
+fn coordinates_refused(model: &Model, m: &mut Memory<'_, Gf251, Simplex>) -> bool {
     let chain = [Entry { number: 2, code: 1 }];
-    let m = lend!(cells, index, columns, entries, work);
-    model
-        .model()
-        .coordinates::<Gf251, Simplex>(m, 0, &chain, &mut [0; 8])
-        .is_err()
+    model.coordinates(m, 0, &chain, &mut [0; PLACES]).is_err()
 }
 
 pub(crate) fn damaged_memory(rt: &HostRuntime) -> anyhow::Result<()> {
-    let heap = rt.alloc();
-    let mut cells = filled(heap, point(0), PLACES)?;
-    let mut index = filled(heap, 0u16, PLACES)?;
-    let mut columns = filled(heap, BROKEN_COLUMN, PLACES)?;
-    let mut entries = filled(heap, blank_term::<Gf251>(), 32)?;
-    let mut work = filled(heap, blank_term::<Gf251>(), 4 * PLACES)?;
-    let m = Memory {
-        cells: &mut cells,
-        index: &mut index,
-        columns: &mut columns,
-        entries: &mut entries,
-        work: &mut work,
+    let mut lists = Lists::<Gf251, Simplex>::new(rt.alloc(), PLACES, ROOM, point(0))?;
+    let mut m = lists.lend();
+    m.columns.fill(BROKEN_COLUMN);
+    let Ok(mut model) = Standing::new(PLACES, ROOM, &m) else {
+        bail!("no model");
     };
-    let Ok(mut model) = Standing::new::<Gf251, Simplex>(PLACES, 32, &m) else {
-        return Err(anyhow!("no model"));
-    };
-    let part = hollow_triangle();
-    let entered = enter_all::<Gf251, Simplex>(
-        &mut model,
-        &mut cells,
-        &mut index,
-        &mut columns,
-        &mut entries,
-        &mut work,
-        &part,
-    )
-    .is_ok();
-    scribble(
-        &mut cells,
-        &mut index,
-        &mut columns,
-        &mut entries,
-        &mut work,
-    );
-    let cleared = coordinates_refused(
-        &model,
-        &mut cells,
-        &mut index,
-        &mut columns,
-        &mut entries,
-        &mut work,
-    );
-    scribble(
-        &mut cells,
-        &mut index,
-        &mut columns,
-        &mut entries,
-        &mut work,
-    );
-    let refused = call_all(
-        model,
-        &mut cells,
-        &mut index,
-        &mut columns,
-        &mut entries,
-        &mut work,
-    );
+    let entered = enter_all(&mut model, &mut m, &hollow_triangle()).is_ok();
+    scribble(&mut m);
+    let cleared = coordinates_refused(model.model(), &mut m);
+    scribble(&mut m);
+    let refused = call_all(model, &mut m)?;
     println!(rt; "damaged memory: entered {entered}, calls ended, {refused} of 5 refused")?;
     println!(rt; "coordinates in damaged memory: refused {cleared}")?;
     Ok(())

@@ -1,213 +1,127 @@
 // Histories of entries, take-offs and trials, kept beside a plain list: Betti numbers against dense elimination, and coordinates.
-use crate::calls::betti;
 use crate::coordinates::own_places;
 use crate::dense;
-use crate::memory::{BLANK_COLUMN, blank_term, filled};
+use crate::memory::Lists;
 use crate::parts::point;
 use crate::random::{next, random_simplex};
-use anyhow::anyhow;
-use cell::kind::Kind;
+use anyhow::bail;
 use cell::simplex::Simplex;
-use columns::column::Column;
 use field::field::Field;
-use homology::term::Term;
 use kernel::memory::Memory;
-use kernel::model::Standing;
+use kernel::model::{Model, Standing};
 use std::alloc::AllocError;
+
+const PLACES: usize = 64;
 
 const ROOM: usize = 4096;
 
 const STEPS: u32 = 400;
 
-// Enters a cell into model and plain list.
-fn enter<F: Field>(
-    model: &mut Standing,
-    cells: &mut [Simplex],
-    index: &mut [u16],
-    columns: &mut [Column],
-    entries: &mut [Term<F>],
-    work: &mut [Term<F>],
-    plain: &mut Vec<Simplex>,
+// A history under way: a model's memory, the cells that stand as a plain list, and how many comparisons were asked for and agreed.
+#[derive(Drop)]
+struct Walk<'a, F> {
+    m: Memory<'a, F, Simplex>,
+    plain: Vec<Simplex>,
     seed: u32,
-) -> Result<(), AllocError> {
-    let cell = random_simplex(seed);
-    let m = Memory {
-        cells,
-        index,
-        columns,
-        entries,
-        work,
-    };
-    if model.enter::<F, Simplex>(m, cell).is_ok() {
-        plain.push(cell)?;
-    }
-    Ok(())
+    asked: u32,
+    agreed: u32,
 }
 
-// Opens a trial, tries two cells and takes one off, then keeps or undoes.
-fn try_cells<F: Field>(
-    model: Standing,
-    cells: &mut [Simplex],
-    index: &mut [u16],
-    columns: &mut [Column],
-    entries: &mut [Term<F>],
-    work: &mut [Term<F>],
-    plain: &mut Vec<Simplex>,
-    seed: u32,
-) -> anyhow::Result<Standing> {
-    let m = lend!(cells, index, columns, entries, work);
-    let mut trial = match model.open::<F, Simplex>(&m) {
-        Ok(trial) => trial,
-        Err(_) => return Err(anyhow!("a trial was refused")),
-    };
-    let first = random_simplex(seed);
-    let second = random_simplex(next(seed));
-    let m = lend!(cells, index, columns, entries, work);
-    let one = trial.enter::<F, Simplex>(m, first).is_ok();
-    let m = lend!(cells, index, columns, entries, work);
-    let two = trial.enter::<F, Simplex>(m, second).is_ok();
-    let m = lend!(cells, index, columns, entries, work);
-    if seed & 1 == 0 {
-        return match trial.undo::<F, Simplex>(m) {
-            Ok(model) => Ok(model),
-            Err(_) => unreachable(),
+impl<F: Field> Walk<'_, F> {
+    // Enters a cell into model and plain list.
+    fn enter(&mut self, model: &mut Standing) -> Result<(), AllocError> {
+        let cell = random_simplex(self.seed);
+        if model.enter(&mut self.m, cell).is_ok() {
+            self.plain.push(cell)?;
+        }
+        Ok(())
+    }
+
+    // Takes the latest cell off model and plain list.
+    fn take_off(&mut self, model: &mut Standing) {
+        if model.take_off(&mut self.m).is_ok() {
+            let _ = self.plain.pop();
+        }
+    }
+
+    // Opens a trial, tries two cells, then keeps or undoes.
+    fn try_cells(&mut self, model: Standing) -> anyhow::Result<Standing> {
+        let Ok(mut trial) = model.open(&self.m) else {
+            bail!("a trial was refused");
         };
-    }
-    match trial.keep::<F, Simplex>(&m) {
-        Ok(model) => {
-            if one {
-                plain.push(first)?;
-            }
-            if two {
-                plain.push(second)?;
-            }
-            Ok(model)
+        let first = random_simplex(self.seed);
+        let second = random_simplex(next(self.seed));
+        let first = trial.enter(&mut self.m, first).is_ok().then_some(first);
+        let second = trial.enter(&mut self.m, second).is_ok().then_some(second);
+        if self.seed & 1 == 0 {
+            return match trial.undo(&mut self.m) {
+                Ok(model) => Ok(model),
+                Err(_) => unreachable(),
+            };
         }
-        Err(_) => unreachable(),
-    }
-}
-
-// Takes the latest cell off model and plain list.
-fn take_off<F: Field>(
-    model: &mut Standing,
-    cells: &mut [Simplex],
-    index: &mut [u16],
-    columns: &mut [Column],
-    entries: &mut [Term<F>],
-    work: &mut [Term<F>],
-    plain: &mut Vec<Simplex>,
-) {
-    let m = Memory {
-        cells,
-        index,
-        columns,
-        entries,
-        work,
-    };
-    if model.take_off::<F, Simplex>(m).is_ok() {
-        let _ = plain.pop();
-    }
-}
-
-// Whether the model's Betti numbers are those of the plain list by dense elimination, and its cycles have their own coordinates.
-fn agrees<F: Field>(
-    model: &Standing,
-    cells: &mut [Simplex],
-    index: &mut [u16],
-    columns: &mut [Column],
-    entries: &mut [Term<F>],
-    work: &mut [Term<F>],
-    plain: &[Simplex],
-    matrix: &mut [F],
-) -> bool {
-    for k in 0..4 {
-        let counted = betti::<F, Simplex>(model.model(), cells, index, columns, entries, work, k);
-        let number = counted.unwrap_or(0);
-        if number != dense::betti::<F, Simplex>(matrix, plain, k)
-            || !own_places::<F, Simplex>(
-                model.model(),
-                cells,
-                index,
-                columns,
-                entries,
-                work,
-                k,
-                number,
-            )
-        {
-            return false;
+        match trial.keep(&self.m) {
+            Ok(model) => {
+                self.plain.extend(first)?;
+                self.plain.extend(second)?;
+                Ok(model)
+            }
+            Err(_) => unreachable(),
         }
     }
-    true
-}
 
-// A history: how many of its comparisons agree, and how many there are.
-fn walk<F: Field>(
-    start: Standing,
-    cells: &mut [Simplex],
-    index: &mut [u16],
-    columns: &mut [Column],
-    entries: &mut [Term<F>],
-    work: &mut [Term<F>],
-    plain: &mut Vec<Simplex>,
-    matrix: &mut [F],
-    first: u32,
-) -> anyhow::Result<(u32, u32)> {
-    let mut model = start;
-    let mut seed = first;
-    let mut agreed = 0u32;
-    let mut asked = 0u32;
-    for _ in 0..STEPS {
-        seed = next(seed);
-        match seed >> 28 {
-            0..=11 => enter(
-                &mut model, cells, index, columns, entries, work, plain, seed,
-            )?,
-            12 => take_off(&mut model, cells, index, columns, entries, work, plain),
-            13 => model = try_cells(model, cells, index, columns, entries, work, plain, seed)?,
-            _ => {
-                let agree = agrees(&model, cells, index, columns, entries, work, plain, matrix);
-                asked = asked.saturating_add(1);
-                agreed = agreed.saturating_add(agree as u32);
+    // Whether the model's Betti numbers are those of the plain list by dense elimination, and its cycles have their own coordinates.
+    fn agrees(&mut self, model: &Model) -> Result<bool, AllocError> {
+        let heap = *self.plain.allocator();
+        for k in 0..4 {
+            let number = model.betti(&self.m, k).unwrap_or(0);
+            let expected = dense::betti::<F, Simplex>(heap, &self.plain, k)?;
+            if number != expected || !own_places(model, &mut self.m, k, number) {
+                return Ok(false);
             }
         }
+        Ok(true)
     }
-    Ok((agreed, asked))
+
+    fn compare(&mut self, model: &Model) -> Result<(), AllocError> {
+        let agrees = self.agrees(model)?;
+        self.asked = self.asked.saturating_add(1);
+        self.agreed = self.agreed.saturating_add(u32::from(agrees));
+        Ok(())
+    }
+
+    fn step(&mut self, mut model: Standing) -> anyhow::Result<Standing> {
+        self.seed = next(self.seed);
+        match self.seed >> 28 {
+            0..=11 => self.enter(&mut model)?,
+            12 => self.take_off(&mut model),
+            13 => return self.try_cells(model),
+            _ => self.compare(model.model())?,
+        }
+        Ok(model)
+    }
 }
 
 // One history over a field: prints how many of its comparisons agree.
 pub(crate) fn history<F: Field>(rt: &HostRuntime, first: u32) -> anyhow::Result<()> {
     let heap = rt.alloc();
-    let mut cells = filled(heap, point(0), dense::SIDE)?;
-    let mut index = filled(heap, 0u16, dense::SIDE)?;
-    let mut columns = filled(heap, BLANK_COLUMN, dense::SIDE)?;
-    let mut entries = filled(heap, blank_term::<F>(), ROOM)?;
-    let mut work = filled(heap, blank_term::<F>(), 4 * dense::SIDE)?;
-    let mut matrix = filled(heap, F::zero(), dense::SIDE * dense::SIDE)?;
-    let mut plain = Vec::new(heap);
-    let m = Memory {
-        cells: &mut cells,
-        index: &mut index,
-        columns: &mut columns,
-        entries: &mut entries,
-        work: &mut work,
+    let mut lists = Lists::<F, Simplex>::new(heap, PLACES, ROOM, point(0))?;
+    let mut walk = Walk {
+        m: lists.lend(),
+        plain: Vec::new(heap),
+        seed: first,
+        asked: 0,
+        agreed: 0,
     };
-    let Ok(model) = Standing::new::<F, Simplex>(dense::SIDE, ROOM, &m) else {
-        return Err(anyhow!("no model"));
+    let Ok(mut model) = Standing::new(PLACES, ROOM, &walk.m) else {
+        bail!("no model");
     };
-    let (agreed, asked) = walk(
-        model,
-        &mut cells,
-        &mut index,
-        &mut columns,
-        &mut entries,
-        &mut work,
-        &mut plain,
-        &mut matrix,
-        first,
-    )?;
-    let order = F::ORDER;
-    let count = plain.len();
+    for _ in 0..STEPS {
+        model = walk.step(model)?;
+    }
+    let order = F::field_order();
+    let count = walk.plain.len();
+    let agreed = walk.agreed;
+    let asked = walk.asked;
     println!(rt;
         "history {first} over {order}: {count} cells stand, {agreed} of {asked} agree with dense elimination"
     )?;

@@ -1,19 +1,6 @@
 #![tactic(auto)]
 
 // Checks of the kernel beside its proofs: worked parts, refusals, damaged memory, histories against dense elimination.
-// The five slices, lent for one call.
-macro_rules! lend {
-    ($cells:ident, $index:ident, $columns:ident, $entries:ident, $work:ident) => {
-        Memory {
-            cells: &mut *$cells,
-            index: &mut *$index,
-            columns: &mut *$columns,
-            entries: &mut *$entries,
-            work: &mut *$work,
-        }
-    };
-}
-
 mod calls;
 mod coordinates;
 mod damage;

@@ -1,17 +1,10 @@
-// Memory that is made for a model, scribbled on and compared.
+// Memory that is made for a model, and nonsense to write into it.
 use cell::kind::Kind;
 use columns::column::Column;
 use field::field::Field;
 use homology::term::Term;
+use kernel::memory::Memory;
 use std::alloc::{AllocError, Global};
-use std::cmp::Ordering;
-
-pub(crate) const BLANK_COLUMN: Column = Column {
-    start: 0,
-    reduced: 0,
-    basis: 0,
-    killer: None,
-};
 
 // A column that points nowhere.
 pub(crate) const BROKEN_COLUMN: Column = Column {
@@ -21,49 +14,50 @@ pub(crate) const BROKEN_COLUMN: Column = Column {
     killer: Some(3),
 };
 
-pub(crate) fn blank_term<F: Field>() -> Term<F> {
-    Term {
-        number: 0,
-        coefficient: F::zero(),
-    }
+// The lists whose slices are lent to a model.
+#[derive(Drop)]
+pub(crate) struct Lists<F, C> {
+    cells: Vec<C>,
+    index: Vec<u16>,
+    columns: Vec<Column>,
+    entries: Vec<Term<F>>,
+    work: Vec<Term<F>>,
 }
 
-pub(crate) fn same_cells<C: Kind>(a: &[C], b: &[C]) -> bool {
-    for (x, y) in a.iter().zip(b.iter()) {
-        if x.compare(y) != Ordering::Equal {
-            return false;
+impl<F: Field, C: Kind> Lists<F, C> {
+    // Lists for n cells and e column entries: a cell at each place, and blanks.
+    pub(crate) fn new(
+        heap: Global,
+        n: usize,
+        e: usize,
+        cell: C,
+    ) -> Result<Lists<F, C>, AllocError> {
+        let column = Column {
+            start: 0,
+            reduced: 0,
+            basis: 0,
+            killer: None,
+        };
+        let term = Term {
+            number: 0,
+            coefficient: F::zero(),
+        };
+        Ok(Lists {
+            cells: vec![in heap; cell; n]?,
+            index: vec![in heap; 0; n]?,
+            columns: vec![in heap; column; n]?,
+            entries: vec![in heap; term; e]?,
+            work: vec![in heap; term; n.saturating_mul(4)]?,
+        })
+    }
+
+    pub(crate) fn lend(&mut self) -> Memory<'_, F, C> {
+        Memory {
+            cells: &mut self.cells,
+            index: &mut self.index,
+            columns: &mut self.columns,
+            entries: &mut self.entries,
+            work: &mut self.work,
         }
     }
-    a.len() == b.len()
-}
-
-pub(crate) fn same_columns(a: &[Column], b: &[Column]) -> bool {
-    for (x, y) in a.iter().zip(b.iter()) {
-        if x.start != y.start
-            || x.reduced != y.reduced
-            || x.basis != y.basis
-            || x.killer != y.killer
-        {
-            return false;
-        }
-    }
-    a.len() == b.len()
-}
-
-pub(crate) fn same_terms<F: Field>(a: &[Term<F>], b: &[Term<F>]) -> bool {
-    for (x, y) in a.iter().zip(b.iter()) {
-        if x.number != y.number || x.coefficient.code() != y.coefficient.code() {
-            return false;
-        }
-    }
-    a.len() == b.len()
-}
-
-// A list of n equal values.
-pub(crate) fn filled<T: Copy>(heap: Global, value: T, n: usize) -> Result<Vec<T>, AllocError> {
-    let mut list = Vec::new(heap);
-    for _ in 0..n {
-        list.push(value)?;
-    }
-    Ok(list)
 }

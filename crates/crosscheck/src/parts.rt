@@ -2,21 +2,21 @@
 use cell::cube::Cube;
 use cell::simplex::Simplex;
 
+pub(crate) fn simplex(vertices: [u16; 4]) -> Simplex {
+    let [a, b, c, d] = vertices;
+    Simplex { a, b, c, d }
+}
+
 pub(crate) fn point(a: u16) -> Simplex {
-    Simplex {
-        a,
-        b: 0,
-        c: 0,
-        d: 0,
-    }
+    simplex([a, 0, 0, 0])
 }
 
 pub(crate) fn edge(a: u16, b: u16) -> Simplex {
-    Simplex { a, b, c: 0, d: 0 }
+    simplex([a, b, 0, 0])
 }
 
 pub(crate) fn triangle(a: u16, b: u16, c: u16) -> Simplex {
-    Simplex { a, b, c, d: 0 }
+    simplex([a, b, c, 0])
 }
 
 pub(crate) fn hollow_triangle() -> [Simplex; 6] {
@@ -53,9 +53,4 @@ pub(crate) fn unit_cell(i: u16) -> Cube {
         y: i / 3 % 3,
         z: i / 9 % 3,
     }
-}
-
-pub(crate) fn simplex(vertices: [u16; 4]) -> Simplex {
-    let [a, b, c, d] = vertices;
-    Simplex { a, b, c, d }
 }

@@ -9,17 +9,14 @@ pub(crate) fn next(seed: u32) -> u32 {
 // A simplex on some of six vertices, at most four; fewer vertices come more often.
 pub(crate) fn random_simplex(seed: u32) -> Simplex {
     let mask = if seed & 128 == 0 {
-        seed >> 8 & seed >> 14
+        seed >> 7 & seed >> 13
     } else {
-        seed >> 8
+        seed >> 7
     };
-    let mut vertices = [0u16; 4];
-    let mut used = 0;
-    for bit in 0..6u16 {
-        if used < 4 && mask >> bit & 1 == 1 {
-            vertices[used] = bit + 1;
-            used += 1;
-        }
+    let mut vertices = [0; 4];
+    let used = (1..=6u16).filter(|number| mask >> *number & 1 == 1);
+    for (vertex, number) in vertices.iter_mut().zip(used) {
+        *vertex = number;
     }
     simplex(vertices)
 }

@@ -1,7 +1,7 @@
 // Each refusal of a call on a model, with its memory before and after.
-use crate::memory::{BLANK_COLUMN, blank_term, filled, same_cells, same_columns, same_terms};
+use crate::memory::Lists;
 use crate::parts::{edge, point};
-use anyhow::anyhow;
+use anyhow::bail;
 use cell::simplex::Simplex;
 use columns::column::Column;
 use field::elements::Gf3;
@@ -9,147 +9,148 @@ use homology::term::Term;
 use kernel::fault::ModelFault;
 use kernel::memory::{Entry, Memory};
 use kernel::model::Standing;
+use std::alloc::{AllocError, Global};
 
-// A call to try: what it is, and the cell, dimension, place or buffer length that it is given.
+// A call to try: what it is, and the cell, dimension, place, chain or buffer length that it is given.
 #[derive(Clone, Copy)]
-enum Call {
+enum Call<'a> {
     Enter(Simplex),
     TakeOff,
     Betti(u8),
     Cycle(u8, usize, usize),
-    Coordinates(u8, Chain, usize),
+    Coordinates(u8, &'a [Entry], usize),
 }
 
-// A chain of at most three entries.
-#[derive(Clone, Copy)]
-struct Chain {
-    entries: [Entry; 3],
-    len: usize,
+// A call that was refused, and whether its answer buffer is then as it was.
+struct Refusal {
+    fault: ModelFault,
+    buffer_kept: bool,
 }
 
-fn chain_of(list: &[(u16, u8)]) -> Chain {
-    let mut entries = [Entry { number: 0, code: 0 }; 3];
-    let mut len = 0;
-    for (i, (number, code)) in list.iter().take(3).enumerate() {
-        entries[i] = Entry {
-            number: *number,
-            code: *code,
-        };
-        len = i + 1;
-    }
-    Chain { entries, len }
-}
-
-// Asks for coordinates in a buffer of at most four places.
-fn ask_coordinates(
-    model: &Standing,
-    m: Memory<'_, Gf3, Simplex>,
-    k: u8,
-    chain: Chain,
-    places: usize,
-) -> (Option<ModelFault>, bool) {
-    let mut out = [7; 4];
-    let entries = chain.entries;
-    let len = chain.len.min(3);
-    let places = places.min(4);
-    let fault = model
-        .model()
-        .coordinates::<Gf3, Simplex>(m, k, &entries[0..len], &mut out[0..places])
-        .err();
-    let kept = out[0] == 7 && out[1] == 7 && out[2] == 7 && out[3] == 7;
-    (fault, fault.is_none() || kept)
-}
-
-// Makes the call: the fault, if it is refused, and whether the answer buffer is then as it was.
-fn make(
-    model: &mut Standing,
-    cells: &mut [Simplex],
-    index: &mut [u16],
-    columns: &mut [Column],
-    entries: &mut [Term<Gf3>],
-    work: &mut [Term<Gf3>],
-    call: Call,
-) -> (Option<ModelFault>, bool) {
-    let m = Memory {
-        cells,
-        index,
-        columns,
-        entries,
-        work,
-    };
-    match call {
-        Call::Coordinates(k, chain, places) => ask_coordinates(model, m, k, chain, places),
-        Call::Enter(cell) => (model.enter::<Gf3, Simplex>(m, cell).err(), true),
-        Call::TakeOff => (model.take_off::<Gf3, Simplex>(m).err(), true),
-        Call::Betti(k) => (model.model().betti::<Gf3, Simplex>(&m, k).err(), true),
-        Call::Cycle(k, i, len) => {
-            let mark = Entry { number: 7, code: 7 };
-            let mut out = [mark; 4];
-            let fault = if len <= 4 {
-                model
-                    .model()
-                    .cycle::<Gf3, Simplex>(&m, k, i, &mut out[0..len])
-                    .err()
-            } else {
-                None
-            };
-            let kept = out[0] == mark && out[1] == mark && out[2] == mark && out[3] == mark;
-            (fault, fault.is_none() || kept)
+// A call without a buffer.
+impl From<ModelFault> for Refusal {
+    fn from(fault: ModelFault) -> Refusal {
+        Refusal {
+            fault,
+            buffer_kept: true,
         }
     }
 }
 
-// Makes the call on copies of the memory's lengths and prints what came, and whether a refusal left memory and buffer alone.
-fn show(
-    rt: &HostRuntime,
-    name: &str,
+// All of a memory that a refusal leaves as it was.
+#[derive(PartialEq, Drop)]
+struct Kept {
+    cells: Vec<Simplex>,
+    index: Vec<u16>,
+    columns: Vec<Column>,
+    entries: Vec<Term<Gf3>>,
+}
+
+impl Kept {
+    fn of(heap: Global, m: &Memory<'_, Gf3, Simplex>) -> Result<Kept, AllocError> {
+        Ok(Kept {
+            cells: m.cells.to_vec(heap)?,
+            index: m.index.to_vec(heap)?,
+            columns: m.columns.to_vec(heap)?,
+            entries: m.entries.to_vec(heap)?,
+        })
+    }
+}
+
+// Asks with the front of a buffer in which each place holds a mark.
+fn ask<T: Copy + PartialEq, Q: FnOnce(&mut [T]) -> Result<usize, ModelFault>>(
+    out: &mut [T],
+    mark: T,
+    places: usize,
+    question: Q,
+) -> Result<(), Refusal>
+    requires { Q.IsAlwaysCallable question }
+{
+    let places = places.min(out.len());
+    match question(&mut out[..places]) {
+        Ok(_) => Ok(()),
+        Err(fault) => Err(Refusal {
+            fault,
+            buffer_kept: out.iter().all(|place| *place == mark),
+        }),
+    }
+}
+
+fn make(
     model: &mut Standing,
-    cells: &mut [Simplex],
-    index: &mut [u16],
-    columns: &mut [Column],
-    entries: &mut [Term<Gf3>],
-    work: &mut [Term<Gf3>],
-    call: Call,
-) -> anyhow::Result<()> {
-    let heap = rt.alloc();
-    let old_cells = cells.iter().copied().collect::<Vec<Simplex>>(heap)?;
-    let old_index = index.iter().copied().collect::<Vec<u16>>(heap)?;
-    let old_columns = columns.iter().copied().collect::<Vec<Column>>(heap)?;
-    let old_entries = entries.iter().copied().collect::<Vec<Term<Gf3>>>(heap)?;
-    let (fault, buffer_kept) = make(model, cells, index, columns, entries, work, call);
-    let kept = same_cells::<Simplex>(&old_cells, cells)
-        && old_index.as_slice() == &*index
-        && same_columns(&old_columns, columns)
-        && same_terms::<Gf3>(&old_entries, entries);
-    match fault {
-        None => println!(rt; "{name}: accepted")?,
-        Some(fault) => {
-            let number = fault.number();
-            let place = fault.place();
-            println!(rt;
-                "{name}: no {number} at {place}, memory kept {kept}, buffer kept {buffer_kept}"
+    m: &mut Memory<'_, Gf3, Simplex>,
+    call: Call<'_>,
+) -> Result<(), Refusal> {
+    match call {
+        Call::Enter(cell) => model.enter(m, cell)?,
+        Call::TakeOff => {
+            model.take_off(m)?;
+        }
+        Call::Betti(k) => {
+            model.model().betti(m, k)?;
+        }
+        Call::Cycle(k, i, places) => {
+            let mark = Entry { number: 7, code: 7 };
+            ask(
+                &mut [mark; 4],
+                mark,
+                places,
+                |out| model.model().cycle(m, k, i, out),
             )?;
+        }
+        Call::Coordinates(k, chain, places) => {
+            ask(&mut [7; 4], 7, places, |out| {
+                model.model().coordinates(m, k, chain, out)
+            })?;
         }
     }
     Ok(())
 }
 
-// Tries the calls in turn on a model made for n cells and e entries.
-fn try_calls(rt: &HostRuntime, n: usize, e: usize, calls: &[(&str, Call)]) -> anyhow::Result<()> {
+// Makes the call and prints what came, and whether a refusal left memory and buffer alone.
+fn show(
+    rt: &HostRuntime,
+    name: &str,
+    model: &mut Standing,
+    m: &mut Memory<'_, Gf3, Simplex>,
+    call: Call<'_>,
+) -> anyhow::Result<()> {
     let heap = rt.alloc();
-    let mut cells = filled(heap, point(0), n)?;
-    let mut index = filled(heap, 0u16, n)?;
-    let mut columns = filled(heap, BLANK_COLUMN, n)?;
-    let mut entries = filled(heap, blank_term::<Gf3>(), e)?;
-    let mut work = filled(heap, blank_term::<Gf3>(), n.saturating_mul(4))?;
-    let m = Memory {
-        cells: &mut cells,
-        index: &mut index,
-        columns: &mut columns,
-        entries: &mut entries,
-        work: &mut work,
+    let before = Kept::of(heap, m)?;
+    let Err(Refusal { fault, buffer_kept }) = make(model, m, call) else {
+        println!(rt; "{name}: accepted")?;
+        return Ok(());
     };
-    let mut model = match Standing::new::<Gf3, Simplex>(n, e, &m) {
+    let kept = Kept::of(heap, m)? == before;
+    let number = fault.number();
+    let place = fault.place();
+    println!(rt; "{name}: no {number} at {place}, memory kept {kept}, buffer kept {buffer_kept}")?;
+    Ok(())
+}
+
+// Shows the calls in turn.
+fn show_all(
+    rt: &HostRuntime,
+    model: &mut Standing,
+    m: &mut Memory<'_, Gf3, Simplex>,
+    calls: &[(&str, Call<'_>)],
+) -> anyhow::Result<()> {
+    for (name, call) in calls {
+        show(rt, name, model, m, *call)?;
+    }
+    Ok(())
+}
+
+// Shows the calls in turn on a model made for n cells and e entries.
+fn try_calls(
+    rt: &HostRuntime,
+    n: usize,
+    e: usize,
+    calls: &[(&str, Call<'_>)],
+) -> anyhow::Result<()> {
+    let mut lists = Lists::new(rt.alloc(), n, e, point(0))?;
+    let mut m = lists.lend();
+    let mut model = match Standing::new(n, e, &m) {
         Ok(model) => model,
         Err(fault) => {
             let number = fault.number();
@@ -158,66 +159,26 @@ fn try_calls(rt: &HostRuntime, n: usize, e: usize, calls: &[(&str, Call)]) -> an
         }
     };
     println!(rt; "made for {n} cells and {e} entries")?;
-    for (name, call) in calls {
-        show(
-            rt,
-            name,
-            &mut model,
-            &mut cells,
-            &mut index,
-            &mut columns,
-            &mut entries,
-            &mut work,
-            *call,
-        )?;
-    }
-    Ok(())
+    show_all(rt, &mut model, &mut m, calls)
 }
 
 // Calls with memory of other lengths than the making's.
-fn wrong_lengths(rt: &HostRuntime, calls: &[(&str, Call)]) -> anyhow::Result<()> {
-    let heap = rt.alloc();
-    let mut cells = filled(heap, point(0), 4)?;
-    let mut index = filled(heap, 0u16, 4)?;
-    let mut columns = filled(heap, BLANK_COLUMN, 4)?;
-    let mut entries = filled(heap, blank_term::<Gf3>(), 9)?;
-    let mut work = filled(heap, blank_term::<Gf3>(), 16)?;
-    let mut short = filled(heap, 0u16, 3)?;
-    let m = Memory {
-        cells: &mut cells,
-        index: &mut short,
-        columns: &mut columns,
-        entries: &mut entries,
-        work: &mut work,
+fn wrong_lengths(rt: &HostRuntime, calls: &[(&str, Call<'_>)]) -> anyhow::Result<()> {
+    let mut lists = Lists::new(rt.alloc(), 4, 9, point(0))?;
+    let mut short = [0; 3];
+    let m = lists.lend();
+    let Ok(mut model) = Standing::new(4, 9, &m) else {
+        bail!("no model");
     };
-    if let Err(fault) = Standing::new::<Gf3, Simplex>(4, 9, &m) {
+    let mut m = Memory {
+        index: &mut short,
+        ..m
+    };
+    if let Err(fault) = Standing::new(4, 9, &m) {
         let number = fault.number();
         println!(rt; "made with a short index: no {number}")?;
     }
-    let m = Memory {
-        cells: &mut cells,
-        index: &mut index,
-        columns: &mut columns,
-        entries: &mut entries,
-        work: &mut work,
-    };
-    let Ok(mut model) = Standing::new::<Gf3, Simplex>(4, 9, &m) else {
-        return Err(anyhow!("no model"));
-    };
-    for (name, call) in calls {
-        show(
-            rt,
-            name,
-            &mut model,
-            &mut cells,
-            &mut short,
-            &mut columns,
-            &mut entries,
-            &mut work,
-            *call,
-        )?;
-    }
-    Ok(())
+    show_all(rt, &mut model, &mut m, calls)
 }
 
 pub(crate) fn refusals(rt: &HostRuntime) -> anyhow::Result<()> {
@@ -226,14 +187,23 @@ pub(crate) fn refusals(rt: &HostRuntime) -> anyhow::Result<()> {
     try_calls(rt, 4097, 4, &[])?;
     try_calls(rt, 2, 1048576, &[])?;
     try_calls(rt, 2, 1048577, &[])?;
-    let short_index = [
+    short_index(rt)?;
+    few_entries(rt)?;
+    all_places(rt)
+}
+
+fn short_index(rt: &HostRuntime) -> anyhow::Result<()> {
+    let calls = [
         ("enter with a short index", Call::Enter(point(1))),
         ("take off with a short index", Call::TakeOff),
         ("betti with a short index", Call::Betti(0)),
         ("cycle with a short index", Call::Cycle(0, 0, 4)),
     ];
-    wrong_lengths(rt, &short_index)?;
-    let entries_short = [
+    wrong_lengths(rt, &calls)
+}
+
+fn few_entries(rt: &HostRuntime) -> anyhow::Result<()> {
+    let calls = [
         ("betti of no cells", Call::Betti(0)),
         ("take off of no cells", Call::TakeOff),
         ("enter 1 1", Call::Enter(edge(1, 1))),
@@ -247,8 +217,11 @@ pub(crate) fn refusals(rt: &HostRuntime) -> anyhow::Result<()> {
         ("enter 1 3", Call::Enter(edge(1, 3))),
         ("enter 2 3 in 11 entries", Call::Enter(edge(2, 3))),
     ];
-    try_calls(rt, 6, 11, &entries_short)?;
-    let full = [
+    try_calls(rt, 6, 11, &calls)
+}
+
+fn all_places(rt: &HostRuntime) -> anyhow::Result<()> {
+    let calls = [
         ("enter 1", Call::Enter(point(1))),
         ("enter 2", Call::Enter(point(2))),
         ("enter 3", Call::Enter(point(3))),
@@ -264,17 +237,28 @@ pub(crate) fn refusals(rt: &HostRuntime) -> anyhow::Result<()> {
         ("take off", Call::TakeOff),
         ("cycle 1 0", Call::Cycle(1, 0, 4)),
     ];
-    try_calls(rt, 6, 12, &full)
+    try_calls(rt, 6, 12, &calls)
+}
+
+fn entry(number: u16, code: u8) -> Entry {
+    Entry { number, code }
 }
 
 // Coordinates with a short index, and on the hollow triangle.
 pub(crate) fn coordinate_refusals(rt: &HostRuntime) -> anyhow::Result<()> {
     let short_index = [(
         "coordinates with a short index",
-        Call::Coordinates(0, chain_of(&[]), 4),
+        Call::Coordinates(0, &[], 4),
     )];
     wrong_lengths(rt, &short_index)?;
-    let around = chain_of(&[(5, 2), (4, 1), (3, 2)]);
+    let around = [entry(5, 2), entry(4, 1), entry(3, 2)];
+    let high_code = [entry(5, 2), entry(9, 3)];
+    let zero = [entry(5, 0)];
+    let twice = [entry(5, 1), entry(4, 1), entry(4, 1)];
+    let absent = [entry(6, 1)];
+    let mixed = [entry(5, 1), entry(2, 1)];
+    let open = [entry(5, 1)];
+    let points = [entry(2, 1), entry(0, 2)];
     let calls = [
         ("enter 1", Call::Enter(point(1))),
         ("enter 2", Call::Enter(point(2))),
@@ -282,33 +266,18 @@ pub(crate) fn coordinate_refusals(rt: &HostRuntime) -> anyhow::Result<()> {
         ("enter 1 2", Call::Enter(edge(1, 2))),
         ("enter 1 3", Call::Enter(edge(1, 3))),
         ("enter 2 3", Call::Enter(edge(2, 3))),
-        ("coordinates of a cycle", Call::Coordinates(1, around, 1)),
-        ("in no place", Call::Coordinates(1, around, 0)),
-        ("in dimension 16", Call::Coordinates(16, around, 1)),
-        ("in dimension 0", Call::Coordinates(0, around, 1)),
-        (
-            "code 3",
-            Call::Coordinates(1, chain_of(&[(5, 2), (9, 3)]), 1),
-        ),
-        (
-            "coefficient 0",
-            Call::Coordinates(1, chain_of(&[(5, 0)]), 1),
-        ),
-        (
-            "number twice",
-            Call::Coordinates(1, chain_of(&[(5, 1), (4, 1), (4, 1)]), 1),
-        ),
-        ("number 6", Call::Coordinates(1, chain_of(&[(6, 1)]), 1)),
-        (
-            "a point among edges",
-            Call::Coordinates(1, chain_of(&[(5, 1), (2, 1)]), 1),
-        ),
-        ("one edge", Call::Coordinates(1, chain_of(&[(5, 1)]), 1)),
-        ("the empty chain", Call::Coordinates(1, chain_of(&[]), 1)),
-        (
-            "a boundary",
-            Call::Coordinates(0, chain_of(&[(2, 1), (0, 2)]), 1),
-        ),
+        ("coordinates of a cycle", Call::Coordinates(1, &around, 1)),
+        ("in no place", Call::Coordinates(1, &around, 0)),
+        ("in dimension 16", Call::Coordinates(16, &around, 1)),
+        ("in dimension 0", Call::Coordinates(0, &around, 1)),
+        ("code 3", Call::Coordinates(1, &high_code, 1)),
+        ("coefficient 0", Call::Coordinates(1, &zero, 1)),
+        ("number twice", Call::Coordinates(1, &twice, 1)),
+        ("number 6", Call::Coordinates(1, &absent, 1)),
+        ("a point among edges", Call::Coordinates(1, &mixed, 1)),
+        ("one edge", Call::Coordinates(1, &open, 1)),
+        ("the empty chain", Call::Coordinates(1, &[], 1)),
+        ("a boundary", Call::Coordinates(0, &points, 1)),
     ];
     try_calls(rt, 6, 12, &calls)
 }

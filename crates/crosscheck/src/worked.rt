@@ -1,14 +1,12 @@
 // The worked parts, each over one field.
-use crate::calls::{betti, enter_all};
-use crate::memory::{BLANK_COLUMN, blank_term, filled};
+use crate::calls::enter_all;
+use crate::memory::Lists;
 use crate::parts::{edge, hollow_triangle, plane_triangles, point, triangle, unit_cell};
-use anyhow::anyhow;
+use anyhow::bail;
 use cell::cube::Cube;
 use cell::kind::Kind;
 use cell::simplex::Simplex;
-use columns::column::Column;
 use field::field::Field;
-use homology::term::Term;
 use kernel::memory::{Entry, Memory};
 use kernel::model::{Model, Standing};
 use std::alloc::{AllocError, Global};
@@ -24,57 +22,32 @@ fn measure<F: Field, C: Kind>(
     part: &[C],
     blank: C,
 ) -> anyhow::Result<()> {
-    let heap = rt.alloc();
-    let mut cells = filled(heap, blank, PLACES)?;
-    let mut index = filled(heap, 0u16, PLACES)?;
-    let mut columns = filled(heap, BLANK_COLUMN, PLACES)?;
-    let mut entries = filled(heap, blank_term::<F>(), ROOM)?;
-    let mut work = filled(heap, blank_term::<F>(), 4 * PLACES)?;
-    let order = F::ORDER;
+    let mut lists = Lists::<F, C>::new(rt.alloc(), PLACES, ROOM, blank)?;
+    let order = F::field_order();
     print!(rt; "{name} over {order}: ")?;
-    measure_in(
-        rt,
-        part,
-        &mut cells,
-        &mut index,
-        &mut columns,
-        &mut entries,
-        &mut work,
-    )
+    measure_in(rt, part, &mut lists.lend())
 }
 
 // Enters a part into a new model and prints its counts and its first cycle of dimension 1.
 fn measure_in<F: Field, C: Kind>(
     rt: &HostRuntime,
     part: &[C],
-    cells: &mut [C],
-    index: &mut [u16],
-    columns: &mut [Column],
-    entries: &mut [Term<F>],
-    work: &mut [Term<F>],
+    m: &mut Memory<'_, F, C>,
 ) -> anyhow::Result<()> {
-    let m = lend!(cells, index, columns, entries, work);
-    let Ok(mut model) = Standing::new(PLACES, ROOM, &m) else {
-        return Err(anyhow!("no model"));
+    let Ok(mut model) = Standing::new(PLACES, ROOM, m) else {
+        bail!("no model");
     };
-    if enter_all(&mut model, cells, index, columns, entries, work, part).is_err() {
-        return Err(anyhow!("a cell was refused"));
+    if enter_all(&mut model, m, part).is_err() {
+        bail!("a cell was refused");
     }
-    let count = model.model().cell_count();
-    let used = model.model().entries_in_use();
+    let model = model.model();
+    let count = model.cell_count();
+    let used = model.entries_in_use();
     print!(rt; "{count} cells, {used} entries, betti")?;
     for k in 0..4 {
-        let counted = betti(model.model(), cells, index, columns, entries, work, k);
-        print!(rt; " {}", counted.unwrap_or(PLACES))?;
+        print!(rt; " {}", model.betti(m, k).unwrap_or(PLACES))?;
     }
-    let m = Memory {
-        cells,
-        index,
-        columns,
-        entries,
-        work,
-    };
-    show_cycle(rt, model.model(), &m)
+    show_cycle(rt, model, m)
 }
 
 // Prints cycle 0 of dimension 1, if there is one.
@@ -84,12 +57,11 @@ fn show_cycle<F: Field, C: Kind>(
     m: &Memory<'_, F, C>,
 ) -> anyhow::Result<()> {
     let mut out = [Entry { number: 0, code: 0 }; PLACES];
-    let len = model.cycle(m, 1, 0, &mut out).unwrap_or(0);
-    if len > 0 {
+    if let Ok(len) = model.cycle(m, 1, 0, &mut out) {
         print!(rt; ", cycle")?;
-    }
-    for entry in out.iter().take(len) {
-        print!(rt; " {}:{}", entry.number, entry.code)?;
+        for entry in &out[..len] {
+            print!(rt; " {}:{}", entry.number, entry.code)?;
+        }
     }
     println!(rt; "")?;
     Ok(())
@@ -98,31 +70,18 @@ fn show_cycle<F: Field, C: Kind>(
 // All points and edges on six vertices, and the ten triangles.
 fn projective_plane(heap: Global) -> Result<Vec<Simplex>, AllocError> {
     let mut part = Vec::new(heap);
+    part.extend((1..7).map(point))?;
     for a in 1..7 {
-        part.push(point(a))?;
+        part.extend((a + 1..7).map(|b| edge(a, b)))?;
     }
-    for a in 1..7 {
-        for b in a + 1..7 {
-            part.push(edge(a, b))?;
-        }
-    }
-    for t in plane_triangles() {
-        part.push(t)?;
-    }
+    part.extend(plane_triangles())?;
     Ok(part)
 }
 
 // The cells of a unit cube and its faces, by rising dimension.
 fn solid_cube(heap: Global) -> Result<Vec<Cube>, AllocError> {
-    let mut part = Vec::new(heap);
-    for k in 0..4 {
-        for i in 0..27 {
-            let cell = unit_cell(i);
-            if cell.dimension() == k {
-                part.push(cell)?;
-            }
-        }
-    }
+    let mut part = (0..27).map(unit_cell).collect::<Vec<Cube>>(heap)?;
+    part.sort_by_key(|cell| cell.dimension())?;
     Ok(part)
 }
 
