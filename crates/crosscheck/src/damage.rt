@@ -39,12 +39,11 @@ fn call_all(mut model: Standing, m: &mut Memory<'_, Gf251, Simplex>) -> anyhow::
     };
     let tried = trial.enter(m, point(8)).is_err();
     match trial.undo(m) {
-        Ok(_) => {
-            let refused = [entered, counted, written, taken, tried];
-            Ok(refused.iter().filter(|refused| **refused).count())
-        }
-        Err(_) => unreachable(),
+        Ok(_) => (),
+        Err(_) => unreachable!(),
     }
+    let refused = [entered, counted, written, taken, tried];
+    Ok(refused.iter().filter(|refused| **refused).count())
 }
 
 // Asks for the coordinates of a chain in the memory as it is: whether that was refused.

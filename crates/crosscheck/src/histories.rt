@@ -56,17 +56,16 @@ impl<F: Field> Walk<'_, F> {
         if self.seed & 1 == 0 {
             return match trial.undo(&mut self.m) {
                 Ok(model) => Ok(model),
-                Err(_) => unreachable(),
+                Err(_) => unreachable!(),
             };
         }
-        match trial.keep(&self.m) {
-            Ok(model) => {
-                self.plain.extend(first)?;
-                self.plain.extend(second)?;
-                Ok(model)
-            }
-            Err(_) => unreachable(),
-        }
+        let model = match trial.keep(&self.m) {
+            Ok(model) => model,
+            Err(_) => unreachable!(),
+        };
+        self.plain.extend(first)?;
+        self.plain.extend(second)?;
+        Ok(model)
     }
 
     // Whether the model's Betti numbers are those of the plain list by dense elimination, and its cycles have their own coordinates.
