@@ -77,74 +77,62 @@ fn ask<T: Copy + PartialEq, Q: FnOnce(&mut [T]) -> Result<usize, ModelFault>>(
     }
 }
 
-fn make(
-    model: &mut Standing,
-    m: &mut Memory<'_, Gf3, Simplex>,
-    call: Call<'_>,
-) -> Result<(), Refusal> {
-    match call {
-        Call::Enter(cell) => model.enter(m, cell)?,
-        Call::TakeOff => {
-            model.take_off(m)?;
-        }
-        Call::Betti(k) => {
-            model.model().betti(m, k)?;
-        }
-        Call::Cycle(k, i, places) => {
-            let model = model.model();
-            let mark = Entry { number: 7, code: 7 };
-            ask(
-                &mut [mark; 4],
-                mark,
-                places,
-                |out| model.cycle(m, k, i, out),
-            )?;
-        }
-        Call::Coordinates(k, chain, places) => {
-            let model = model.model();
-            ask(
-                &mut [7; 4],
-                7,
-                places,
-                |out| model.coordinates(m, k, chain, out),
-            )?;
-        }
-    }
-    Ok(())
+// A model and its memory, to try calls on.
+#[derive(Drop)]
+struct Subject<'a> {
+    model: Standing,
+    m: Memory<'a, Gf3, Simplex>,
 }
 
-// Makes the call and prints what came, and whether a refusal left memory and buffer alone.
-fn show(
-    rt: &HostRuntime,
-    name: &str,
-    model: &mut Standing,
-    m: &mut Memory<'_, Gf3, Simplex>,
-    call: Call<'_>,
-) -> anyhow::Result<()> {
-    let heap = rt.alloc();
-    let before = Kept::of(heap, m)?;
-    let Err(Refusal { fault, buffer_kept }) = make(model, m, call) else {
-        println!(rt; "{name}: accepted")?;
-        return Ok(());
-    };
-    let kept = Kept::of(heap, m)? == before;
-    let number = fault.number();
-    let place = fault.place();
-    println!(rt; "{name}: no {number} at {place}, memory kept {kept}, buffer kept {buffer_kept}")?;
-    Ok(())
-}
-
-// Shows the calls in turn.
-fn show_all(
-    rt: &HostRuntime,
-    model: &mut Standing,
-    m: &mut Memory<'_, Gf3, Simplex>,
-    calls: &[(&str, Call<'_>)],
-) -> anyhow::Result<()> {
-    for (name, call) in calls {
-        show(rt, name, model, m, *call)?;
+impl Subject<'_> {
+    fn make(&mut self, call: Call<'_>) -> Result<(), Refusal> {
+        let m = &mut self.m;
+        match call {
+            Call::Enter(cell) => self.model.enter(m, cell)?,
+            Call::TakeOff => {
+                self.model.take_off(m)?;
+            }
+            Call::Betti(k) => {
+                self.model.model().betti(m, k)?;
+            }
+            Call::Cycle(k, i, places) => {
+                let model = self.model.model();
+                let mark = Entry { number: 7, code: 7 };
+                let mut out = [mark; 4];
+                ask(&mut out, mark, places, |out| model.cycle(m, k, i, out))?;
+            }
+            Call::Coordinates(k, chain, places) => {
+                let model = self.model.model();
+                let question = |out: &mut [u8]| model.coordinates(m, k, chain, out);
+                ask(&mut [7; 4], 7, places, question)?;
+            }
+        }
+        Ok(())
     }
-    Ok(())
+
+    // Makes the call and prints what came, and whether a refusal left memory and buffer alone.
+    fn show(&mut self, rt: &HostRuntime, name: &str, call: Call<'_>) -> anyhow::Result<()> {
+        let before = Kept::of(rt.alloc(), &self.m)?;
+        let Err(Refusal { fault, buffer_kept }) = self.make(call) else {
+            println!(rt; "{name}: accepted")?;
+            return Ok(());
+        };
+        let kept = Kept::of(rt.alloc(), &self.m)? == before;
+        let number = fault.number();
+        let place = fault.place();
+        println!(rt;
+            "{name}: no {number} at {place}, memory kept {kept}, buffer kept {buffer_kept}"
+        )?;
+        Ok(())
+    }
+
+    // Shows the calls in turn.
+    fn show_all(&mut self, rt: &HostRuntime, calls: &[(&str, Call<'_>)]) -> anyhow::Result<()> {
+        for (name, call) in calls {
+            self.show(rt, name, *call)?;
+        }
+        Ok(())
+    }
 }
 
 // Shows the calls in turn on a model made for n cells and e entries.
@@ -155,8 +143,8 @@ fn try_calls(
     calls: &[(&str, Call<'_>)],
 ) -> anyhow::Result<()> {
     let mut lists = Lists::new(rt.alloc(), n, e, point(0))?;
-    let mut m = lists.lend();
-    let mut model = match Standing::new(n, e, &m) {
+    let m = lists.lend();
+    let model = match Standing::new(n, e, &m) {
         Ok(model) => model,
         Err(fault) => {
             let number = fault.number();
@@ -165,7 +153,7 @@ fn try_calls(
         }
     };
     println!(rt; "made for {n} cells and {e} entries")?;
-    show_all(rt, &mut model, &mut m, calls)
+    Subject { model, m }.show_all(rt, calls)
 }
 
 // Calls with memory of other lengths than the making's.
@@ -173,10 +161,10 @@ fn wrong_lengths(rt: &HostRuntime, calls: &[(&str, Call<'_>)]) -> anyhow::Result
     let mut lists = Lists::new(rt.alloc(), 4, 9, point(0))?;
     let mut short = [0; 3];
     let m = lists.lend();
-    let Ok(mut model) = Standing::new(4, 9, &m) else {
+    let Ok(model) = Standing::new(4, 9, &m) else {
         bail!("no model");
     };
-    let mut m = Memory {
+    let m = Memory {
         index: &mut short,
         ..m
     };
@@ -184,7 +172,7 @@ fn wrong_lengths(rt: &HostRuntime, calls: &[(&str, Call<'_>)]) -> anyhow::Result
         let number = fault.number();
         println!(rt; "made with a short index: no {number}")?;
     }
-    show_all(rt, &mut model, &mut m, calls)
+    Subject { model, m }.show_all(rt, calls)
 }
 
 pub(crate) fn refusals(rt: &HostRuntime) -> anyhow::Result<()> {
