@@ -25,6 +25,6 @@ P
 }
 
 refused "entering through the standing model while its trial is open" borrow-e0382 \
-  "let one = trial.enter" "let mut standing = model; let one = standing.enter"
+  "let first = trial.enter" "let mut standing = model; let first = standing.enter"
 refused "letting a trial go" linear-value-let-go \
-  "if seed & 1 == 0 {" 'if one { return Err(anyhow!("let go")); } if seed & 1 == 0 {'
+  "if self.seed & 1 == 0 {" 'if first.is_some() { bail!("let go"); } if self.seed & 1 == 0 {'
