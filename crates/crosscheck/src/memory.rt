@@ -32,6 +32,7 @@ impl<F: Field, C: Kind> Lists<F, C> {
         e: usize,
         cell: C,
     ) -> Result<Lists<F, C>, AllocError> {
+        // Written out: a Default of columns would serve this place alone.
         let column = Column {
             start: 0,
             reduced: 0,
