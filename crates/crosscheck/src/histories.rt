@@ -117,7 +117,7 @@ pub(crate) fn history<F: Field>(rt: &HostRuntime, first: u32) -> anyhow::Result<
     for _ in 0..STEPS {
         model = walk.step(model)?;
     }
-    let order = F::field_order();
+    let order = F::ORDER;
     let count = walk.plain.len();
     let agreed = walk.agreed;
     let asked = walk.asked;

@@ -23,7 +23,7 @@ fn measure<F: Field, C: Kind>(
     blank: C,
 ) -> anyhow::Result<()> {
     let mut lists = Lists::<F, C>::new(rt.alloc(), PLACES, ROOM, blank)?;
-    let order = F::field_order();
+    let order = F::ORDER;
     print!(rt; "{name} over {order}: ")?;
     measure_in(rt, part, &mut lists.lend())
 }

@@ -1,7 +1,6 @@
 // What a run prints: one line for each answer and each refusal, and how many there were.
 use crate::answer::{Answer, Line};
 use crate::fault::Fault;
-use crate::meaning::meaning;
 use crate::stop::Stop;
 use kernel::fault::ModelFault;
 use kernel::memory::Entry;
@@ -47,8 +46,7 @@ impl<'a> Console<'a> {
         let place = fault.place();
         println!(self.rt; "no {number} at {place}")?;
         if self.says {
-            let words = meaning(fault);
-            eprintln!(self.rt; "no {number}: {words}")?;
+            eprintln!(self.rt; "no {number}: {fault}")?;
         }
         Ok(())
     }

@@ -12,7 +12,6 @@ mod failure;
 mod fault;
 mod from_numbers;
 mod making;
-mod meaning;
 mod part;
 mod reading;
 mod running;
