@@ -6,11 +6,7 @@ ghost use Rattle.field.specs.declared.fault.FieldFault.TheVariants.{ZeroInverse 
 use crate::fault::FieldFault;
 use std::ops::{Add, Mul, Neg};
 
-pub trait Field: Copy
-    + PartialEq
-    + Add<Output = Self>
-    + Mul<Output = Self>
-    + Neg<Output = Self> {
+pub trait Field: Copy + PartialEq + Add<Output = Self> + Mul<Output = Self> + Neg<Output = Self> {
     const ORDER: u16;
 
     const CHARACTERISTIC: u16;
