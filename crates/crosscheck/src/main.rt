@@ -18,6 +18,7 @@ use histories::history;
 use refusals::{coordinate_refusals, refusals};
 use worked::worked_parts;
 
+// A line for each field, since types cannot be looped over; the output has this order.
 fn run(rt: &HostRuntime) -> anyhow::Result<()> {
     worked_parts::<Gf2>(rt)?;
     worked_parts::<Gf3>(rt)?;

@@ -39,7 +39,7 @@ pub enum ModelFault {
 }
 
 impl ModelFault {
-    // The number under which the fault is told.
+    // The rules fix the number under which each refusal is told.
     pub fn number(self) -> u8
         ensures { result ≡ fault_number self }
     {
@@ -64,7 +64,7 @@ impl ModelFault {
         }
     }
 
-    // The place that the fault names, 0 where its rule names none.
+    // The place that the fault names; the rules fix 0 where they name none.
     pub fn place(self) -> usize
         ensures { result ≡ fault_place self }
     {
@@ -119,7 +119,7 @@ impl fmt::Display for ModelFault {
 
 impl Error for ModelFault {}
 
-// A field's fault is passed on whole; the model's rules name a place only for a chain's entry.
+// From by hand, here and below, since contracts cite what it gives. A field's fault is passed on whole; the model's rules name a place only for a chain's entry.
 impl From<FieldFault> for ModelFault {
     ghost from_gives = { λ f r. r ≡ OfField f 0 };
 

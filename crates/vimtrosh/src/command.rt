@@ -49,6 +49,7 @@ pub struct Part {
     pub entries: usize,
 }
 
+// Data and no closures: a line is read before it is known what model and memory it is carried out on.
 #[derive(Drop)]
 pub enum Command {
     Part(Part),

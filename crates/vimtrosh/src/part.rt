@@ -11,6 +11,7 @@ use field::elements::{Gf2, Gf3, Gf4, Gf251};
 use field::field::Field;
 use std::io::Read;
 
+// From names to types: by match, since types are no values.
 fn run_over<F: Field + Clone, R: Read + Drop>(
     console: &mut Console<'_>,
     script: &mut Script<R>,
