@@ -63,3 +63,22 @@ impl PrimeModulus<251> for Gf251 {
         entry(INVERSES, code)
     }
 }
+
+// The fields' constants once more, for the values of constants and for patterns, where one of a generic impl cannot stand yet.
+impl Gf2 {
+    pub const ORDER: u16 = 2;
+
+    pub const CHARACTERISTIC: u16 = 2;
+}
+
+impl Gf3 {
+    pub const ORDER: u16 = 3;
+
+    pub const CHARACTERISTIC: u16 = 3;
+}
+
+impl Gf251 {
+    pub const ORDER: u16 = 251;
+
+    pub const CHARACTERISTIC: u16 = 251;
+}
