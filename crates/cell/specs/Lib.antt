@@ -12,6 +12,7 @@ pub mod CubeLaws
 pub mod Axes
 pub mod SumLaws
 pub mod Products
+pub mod PairFacets
 pub mod PairLaws
 pub mod PairOrder
 pub mod Leibniz
