@@ -1,6 +1,5 @@
 -- What an answer tells, and its room in the answer buffer.
-use Rattle.std.specs.Prelude.{◌≡◌, ℕ}
-use Rattle.arrayvec.specs.ArrayVec.{ArrayVec}
+use Rattle.std.specs.Prelude.{◌≡◌, ℕ, List, Option}
 use Rattle.kernel.specs.declared.model.Model.{Model}
 use Rattle.vimtrosh.specs.declared.answer.Answer.{Answer}
 use Rattle.vimtrosh.specs.declared.answer.Answer.TheVariants.{Cells, Betti, BettiOf, Counts, Cycle}
@@ -18,7 +17,7 @@ length_of (Cycle length) = length
 -- an answer is one to the question
 abbrev pub Answers : Model → Question → Answer → Type 0
 Answers model AskCells answer = answer ≡ Cells model.count model.used
-Answers model AskBetti answer = (numbers : ArrayVec ℕ) × (answer ≡ Betti numbers)
+Answers model AskBetti answer = (numbers : List (Option ℕ)) × (answer ≡ Betti numbers)
 Answers model (AskBettiOf dimension) answer = (number : ℕ) × (answer ≡ BettiOf dimension number)
 Answers model AskCounts answer = (pieces : ℕ) × (channels : ℕ) × (voids : ℕ) × (answer ≡ Counts pieces channels voids)
 Answers model (AskCycle dimension place) answer = (length : ℕ) × (answer ≡ Cycle length)

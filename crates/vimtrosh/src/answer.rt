@@ -2,20 +2,19 @@
 ghost use Rattle.std.specs.Prelude.{◌≡◌};
 ghost use Rattle.vimtrosh.specs.Answers.{length_of};
 
-use arrayvec::ArrayVec;
 use kernel::memory::Entry;
 use std::fmt;
 
 // A chain's terms stand in the answer buffer: were it lent to the answer, no clause could say that a refusal leaves it.
-#[derive(Drop)]
+#[derive(Clone, Copy)]
 pub enum Answer {
     Cells {
         count: usize,
         entries: usize,
     },
-    // From dimension 0 to the highest one.
+    // A number for each dimension up to the highest one.
     Betti {
-        numbers: ArrayVec<usize, 16>,
+        numbers: [Option<usize>; 16],
     },
     BettiOf {
         dimension: u8,
@@ -33,11 +32,11 @@ pub enum Answer {
 
 impl Answer {
     // How many entries of the answer buffer belong to it.
-    pub fn length(&self) -> usize
-        ensures { result ≡ length_of self.now }
+    pub fn length(self) -> usize
+        ensures { result ≡ length_of self }
     {
         match self {
-            Answer::Cycle { length } => *length,
+            Answer::Cycle { length } => length,
             _ => 0,
         }
     }
@@ -46,12 +45,15 @@ impl Answer {
 // An answer with the chain that belongs to it.
 #[derive(Clone, Copy)]
 pub struct Line<'a> {
-    pub answer: &'a Answer,
+    pub answer: Answer,
     pub chain: &'a [Entry],
 }
 
-fn write_numbers<W: fmt::Write>(f: &mut fmt::Formatter<W>, numbers: &[usize]) -> fmt::Result {
-    for number in numbers {
+fn write_numbers<W: fmt::Write>(
+    f: &mut fmt::Formatter<W>,
+    numbers: &[Option<usize>; 16],
+) -> fmt::Result {
+    for number in numbers.iter().flatten() {
         write!(f, " {number}")?;
     }
     Ok(())
@@ -70,7 +72,7 @@ impl fmt::Display for Line<'_> {
             Answer::Cells { count, entries } => write!(f, "cells {count} entries {entries}"),
             Answer::Betti { numbers } => {
                 f.write_str("betti")?;
-                write_numbers(f, numbers.as_slice())
+                write_numbers(f, &numbers)
             }
             Answer::BettiOf { dimension, number } => write!(f, "betti {dimension}: {number}"),
             Answer::Counts {

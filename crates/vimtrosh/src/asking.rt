@@ -5,7 +5,6 @@ ghost use Rattle.vimtrosh.specs.Answers.{length_of, Answers};
 
 use crate::answer::Answer;
 use crate::command::Question;
-use arrayvec::ArrayVec;
 use cell::kind::Kind;
 use field::field::Field;
 use kernel::fault::ModelFault;
@@ -21,10 +20,10 @@ fn betti_numbers<F: Field, C: Kind>(
     ensures { IfOk result (λ answer. Answers model.now AskBetti answer) }
 {
     let top = model.top_dimension(m)?;
-    let mut numbers = ArrayVec::new();
+    let mut numbers = [None; 16];
     // No clause bounds the highest dimension of a kind: there is room up to HIGHEST.
     for k in 0..=top.min(HIGHEST) {
-        numbers.push(model.betti(m, k)?);
+        numbers[usize::from(k)] = Some(model.betti(m, k)?);
     }
     Ok(Answer::Betti { numbers })
 }

@@ -34,7 +34,7 @@ impl<'a> Console<'a> {
     }
 
     // Tells the answer to a question, with the chain that belongs to it.
-    pub fn answer(&mut self, answer: &Answer, chain: &[Entry]) -> Result<(), Stop> {
+    pub fn answer(&mut self, answer: Answer, chain: &[Entry]) -> Result<(), Stop> {
         self.accept();
         self.rt.println(Line { answer, chain })?;
         Ok(())

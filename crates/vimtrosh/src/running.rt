@@ -37,7 +37,7 @@ fn answer_question<F: Field, C: Kind>(
     match ask(model, m, question, out) {
         Ok(answer) => {
             let written = &*out;
-            console.answer(&answer, &written[..answer.length()])
+            console.answer(answer, &written[..answer.length()])
         }
         Err(fault) => console.refuse(fault),
     }
